@@ -15,7 +15,8 @@ use Rattle.swi_board.specs.Transfers.{Here, transfers}
 use Rattle.swi_cache_laws.specs.Paging.{copies}
 use Rattle.swi_cache_laws.specs.Room.{HasRoom, register_jumps}
 use Rattle.swi_cache_laws.specs.Runs.{transfers_from}
-use Rattle.swi_cache_laws.specs.Transfers.{Policy, after_boot}
+use Rattle.swi_cache_laws.specs.Transfers.{after_boot}
+use Rattle.swi_board.specs.Moments.{Policy}
 use Rattle.swi_cache_laws.specs.Writes.{WritesFew}
 use Rattle.swi_cache_laws.proofs.Along.{are_of_runs}
 use Rattle.swi_cache_laws.proofs.Costing.{steps_cost_few, steps_write_few}

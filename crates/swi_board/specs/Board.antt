@@ -25,3 +25,11 @@ pub record BoardWithDevices (S : Type 0) : Type 0 where
   pub rom : S
   pub ram : RamState
   pub devices : Devices
+
+-- the ram and the devices
+pub record Around : Type 0 where
+  pub ram : RamState
+  pub devices : Devices
+
+abbrev pub board_around : {S : Type 0} → BoardOf S → Around → BoardWithDevices S
+board_around b a = record { hart = b.hart; rom = b.rom; ram = a.ram; devices = a.devices }

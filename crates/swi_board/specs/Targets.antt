@@ -8,12 +8,12 @@ use Rattle.swi_rom.specs.Coherent.{TargetAt}
 use Rattle.swi_board.specs.declared.targets.Found.{Found}
 
 -- what is kept before an address was found
-abbrev pub nowhere : Found
-nowhere = record { target = 1; index = 0; row = 0 }
+abbrev pub no_address : Found
+no_address = record { target = 1; index = 0; row = 0 }
 
 -- no address is kept
 abbrev pub IsNothing : List Found → Type 0
-IsNothing found = (k : ℕ) → k < length found → (d : Found) → get_or found k d ≡ nowhere
+IsNothing found = (k : ℕ) → k < length found → (d : Found) → get_or found k d ≡ no_address
 
 -- an address stands where it was found
 pub record FoundAt (v : ImageData) (r : Record) (t : ℕ) (found : Found) : Type 0 where

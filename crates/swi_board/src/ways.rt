@@ -11,10 +11,9 @@ ghost use Rattle.swi_board.specs.Targets.{AreFound};
 use crate::links::{Links, distance};
 use crate::targets::{Found, Targets};
 use std::alloc::Global;
-use swi_hart::EBREAK;
 use swi_image::ImageView;
 use swi_image_ops::index_in_row;
-use swi_isa::{Instr, decode};
+use swi_isa::{EBREAK, Instr, decode};
 use swi_outside::{Memory, SteadyRam};
 use swi_rom::CacheRom;
 

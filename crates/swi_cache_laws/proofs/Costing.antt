@@ -17,7 +17,8 @@ use Rattle.swi_rom.specs.Record.{writes}
 use Rattle.swi_rom.specs.Service.{Setting}
 use Rattle.swi_board.specs.Transfers.{Here, at_fall, settled, before_last, step_size, size, cost}
 use Rattle.swi_board.proofs.Counting.{transfers_few}
-use Rattle.swi_cache_laws.specs.Transfers.{Policy, after_boot}
+use Rattle.swi_cache_laws.specs.Transfers.{after_boot}
+use Rattle.swi_board.specs.Moments.{Policy}
 use Rattle.swi_cache_laws.specs.Writes.{WritesFew}
 use Rattle.swi_cache_laws.specs.Runs.{StepsCostFew, StepsWriteFew, transfers_from}
 

@@ -10,7 +10,8 @@ use Rattle.swi_render.specs.Carried.{Carries}
 use Rattle.swi_rom.specs.Record.{Transfer, writes}
 use Rattle.swi_rom.specs.Service.{Setting}
 use Rattle.swi_board.specs.Transfers.{Here, cost, transfers}
-use Rattle.swi_cache_laws.specs.Transfers.{Policy, after_boot}
+use Rattle.swi_cache_laws.specs.Transfers.{after_boot}
+use Rattle.swi_board.specs.Moments.{Policy}
 use Rattle.swi_cache_laws.specs.Room.{AreTransfers}
 
 -- the transfers of up to n steps of a machine whose first text word stands at this place

@@ -3,11 +3,9 @@ use Rattle.std.specs.Prelude.{ℕ, List, [], ◌∷◌, ◌++◌, fold, Option, 
 use Rattle.swi_image.specs.Format.{ImageData}
 use Rattle.swi_image.specs.Place.{place_of}
 use Rattle.swi_rom.specs.Record.{Record, Transfer, indirect, target_of, empty_record}
+use Rattle.swi_board.specs.Moments.{Policy}
 
 -- the record behind transfers that a policy served one after the other
-abbrev pub Policy : Type 0
-Policy = Record → ImageData → Transfer → Record
-
 abbrev pub served_all : Policy → ImageData → Record → List Transfer → Record
 served_all policy v r ts = fold (λ s t. policy s v t) r ts
 

@@ -5,7 +5,8 @@ use Rattle.swi_image.specs.Place.{place_of}
 use Rattle.swi_image.specs.Sound.{IsImage}
 use Rattle.swi_rom.specs.Record.{Record, Transfer, writes}
 use Rattle.swi_rom.specs.Service.{ServiceOf, Setting}
-use Rattle.swi_cache_laws.specs.Transfers.{Policy, after_boot}
+use Rattle.swi_cache_laws.specs.Transfers.{after_boot}
+use Rattle.swi_board.specs.Moments.{Policy}
 
 -- One transfer writes at most a block's words, a word for each word of the cache where links into blocks that leave are undone, and its link.
 abbrev pub WritesOnce : {S : Type 0} → ServiceOf S → Type 0

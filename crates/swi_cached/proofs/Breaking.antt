@@ -19,7 +19,7 @@ use Rattle.swi_hart.specs.declared.fault.BoardFault.{BoardFault}
 use Rattle.swi_hart.specs.declared.fault.BoardFault.TheVariants.{RamFault, SourceFault, SinkFault}
 use Rattle.swi_hart.specs.Calling.{OnDevice}
 use Rattle.swi_hart.proofs.Taking.{input_shrinks}
-use Rattle.swi_board.specs.Board.{BoardWithDevices}
+use Rattle.swi_board.specs.Board.{BoardWithDevices, Around}
 use Rattle.swi_board.specs.Fetching.{FetchedFront}
 use Rattle.swi_board.specs.Moments.{Moment, Policy, event, events}
 use Rattle.swi_board.specs.Ran.{next_of}
@@ -33,7 +33,7 @@ use Rattle.swi_run_laws.proofs.RunLaws.{flat_at, goes_short, most_fetched, steps
 use Rattle.swi_line.specs.declared.trace.Trace.{Trace}
 use Rattle.swi_cached.specs.Answers.{Failed, RamFailed, RamWithin, StepFailed}
 use Rattle.swi_cached.specs.Cached.{CachedRun, IsFresh, fetches_after, program_after, words_after}
-use Rattle.swi_cached.specs.CachedRan.{Around, Booted, with_input}
+use Rattle.swi_cached.specs.CachedRan.{Booted, with_input}
 use Rattle.swi_cached.specs.Told.{error_by, is_each, told_line}
 use Rattle.swi_cached.specs.Traced.{BegunTo, LineBroke, StepBroke, Tells, ToldAlong, ToldTo, with_errors, with_sink}
 use Rattle.swi_cached.proofs.Starting.{begins, coherent_run, first_moment, from_point, given_for, led_to, quiet_run, setting_is, unused_run, written_run}

@@ -18,7 +18,7 @@ use Rattle.swi_rom.specs.Service.{ServiceOf, IsService}
 use Rattle.swi_rom.specs.Served.{SameFrom}
 use Rattle.swi_hart.specs.Hart.{HartData, is_between}
 use Rattle.swi_hart.specs.Matching.{Matches}
-use Rattle.swi_board.specs.Board.{BoardWithDevices}
+use Rattle.swi_board.specs.Board.{BoardWithDevices, Around}
 use Rattle.swi_board.specs.Moments.{IsRun, Moment, Policy, events, written_in}
 use Rattle.swi_board.specs.Tracking.{point_of}
 use Rattle.swi_board.specs.Transfers.{here_of}
@@ -31,7 +31,7 @@ use Rattle.swi_run_laws.proofs.RunLaws.{run_after}
 use Rattle.swi_line.specs.declared.trace.Trace.{Trace}
 use Rattle.swi_cached.specs.Answers.{BoardEnded, EndedSo, Ended, RamAfter}
 use Rattle.swi_cached.specs.Cached.{CachedRun, IsCarried, IsFresh, end_of, record_after, words_after}
-use Rattle.swi_cached.specs.CachedRan.{Around, Booted, with_input}
+use Rattle.swi_cached.specs.CachedRan.{Booted, with_input}
 use Rattle.swi_cached.specs.Told.{is_each}
 use Rattle.swi_cached.specs.Traced.{Before, ToldAlong, ToldTo}
 use Rattle.swi_cached.proofs.Boot.{lawful}

@@ -16,7 +16,7 @@ use Rattle.swi_board.proofs.Fetching.{words_many}
 use Rattle.swi_cached.specs.Cached.{CachedRun, AreCounted, words_after, written_at_boot, policy_of, IsFlatRun, StopsBeforeStore}
 use Rattle.swi_cached.specs.Told.{error_by, of_steps}
 use Rattle.swi_cached.specs.Answers.{RamFailed}
-use Rattle.swi_cached.specs.CachedRan.{Around}
+use Rattle.swi_board.specs.Board.{Around}
 
 pub is_flat_run : (c : CachedRun) → IsFlatRun c
 is_flat_run c = λ n never. held_is_flat n c.start never

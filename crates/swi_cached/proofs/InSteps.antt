@@ -12,14 +12,14 @@ use Rattle.swi_render.specs.Carried.{Carries}
 use Rattle.swi_rom.specs.Service.{ServiceOf, IsService, Setting}
 use Rattle.swi_hart.specs.declared.fault.BoardFault.{BoardFault}
 use Rattle.swi_hart.specs.declared.fault.BoardFault.TheVariants.{RamFault, SourceFault, SinkFault}
-use Rattle.swi_board.specs.Board.{BoardOf, BoardWithDevices}
+use Rattle.swi_board.specs.Board.{BoardOf, BoardWithDevices, Around, board_around}
 use Rattle.swi_board.proofs.Running.{kept_both}
 use Rattle.swi_line.specs.declared.trace.Trace.{Trace}
 use Rattle.swi_cached.specs.declared.run.CachedStop.{CachedStop}
 use Rattle.swi_cached.specs.declared.run.CachedStop.TheVariants as stop
 use Rattle.swi_cached.specs.Answers.{BoardEnded, EndedSo, Failed, InSteps}
 use Rattle.swi_cached.specs.Cached.{IsFresh}
-use Rattle.swi_cached.specs.CachedRan.{Around, BootBroke, BootRan, CachedRan, RunBroke, board_around, with_input}
+use Rattle.swi_cached.specs.CachedRan.{BootBroke, BootRan, CachedRan, RunBroke, with_input}
 use Rattle.swi_cached.specs.Told.{is_each}
 use Rattle.swi_cached.specs.Traced.{LineBroke, StepBroke, ToldAlong, with_sink}
 use Rattle.swi_cached.proofs.Breaking.{failed_at_line, failed_at_step}

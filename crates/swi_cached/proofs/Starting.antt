@@ -16,7 +16,7 @@ use Rattle.swi_rom.specs.Service.{ServiceOf, IsService, Setting, cache_of}
 use Rattle.swi_rom.specs.Served.{SameFrom}
 use Rattle.swi_hart.specs.Bounds.{depth, most, most_by}
 use Rattle.swi_hart.specs.Hart.{HartData}
-use Rattle.swi_board.specs.Board.{BoardWithDevices}
+use Rattle.swi_board.specs.Board.{BoardWithDevices, Around}
 use Rattle.swi_board.specs.Moments.{Moment, booted, events}
 use Rattle.swi_board.specs.Tracking.{Point, Tracks, point_of}
 use Rattle.swi_board.proofs.Running.{kept_both}
@@ -24,7 +24,7 @@ use Rattle.swi_run_laws.proofs.Between.{depth_booted}
 use Rattle.swi_run_laws.proofs.RunLaws.{events_written}
 use Rattle.swi_line.specs.declared.trace.Trace.{Trace}
 use Rattle.swi_cached.specs.Cached.{IsFresh}
-use Rattle.swi_cached.specs.CachedRan.{Around, Booted, Given}
+use Rattle.swi_cached.specs.CachedRan.{Booted, Given}
 use Rattle.swi_cached.specs.Told.{is_each}
 use Rattle.swi_cached.specs.Traced.{ToldAlong, ToldTo}
 

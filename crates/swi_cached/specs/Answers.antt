@@ -14,7 +14,7 @@ use Rattle.swi_hart.specs.declared.fault.BoardFault.{BoardFault}
 use Rattle.swi_hart.specs.declared.fault.BoardFault.TheVariants.{RamFault, SourceFault, SinkFault}
 use Rattle.swi_hart.specs.Hart.{HartData, is_between}
 use Rattle.swi_hart.specs.Matching.{Fits}
-use Rattle.swi_board.specs.Board.{BoardOf}
+use Rattle.swi_board.specs.Board.{BoardOf, Around}
 use Rattle.swi_board.specs.Fetching.{FetchedFront, HasFetched}
 use Rattle.swi_board.specs.Ran.{Unasked}
 use Rattle.swi_board.specs.Transfers.{here_of}
@@ -22,7 +22,7 @@ use Rattle.swi_line.specs.declared.trace.Trace.{Trace}
 use Rattle.swi_cached.specs.declared.run.CachedStop.{CachedStop}
 use Rattle.swi_cached.specs.declared.run.CachedStop.TheVariants as stop
 use Rattle.swi_cached.specs.Cached.{CachedRun, IsCarried, IsCounted, span_of, program_after, told_after, end_of, instructions_after, fetches_after, words_after, place_after, record_after, record_behind_exit, used_after}
-use Rattle.swi_cached.specs.CachedRan.{Around, Given, with_input}
+use Rattle.swi_cached.specs.CachedRan.{Given, with_input}
 use Rattle.swi_cached.specs.Told.{addresses, history_of, next_told, told_line}
 
 -- A run that came to its end: as the program did, with so many machine instructions, and the service as its policy

@@ -1,7 +1,5 @@
 -- A run of a program out of a cache, by one relation: its boot, and then its told steps.
 use Rattle.std.specs.Prelude.{◌≡◌, ◌⊎◌, ℕ, List, Option, Result, Ok, Err}
-use Rattle.swi_outside.specs.CacheRam.{RamState}
-use Rattle.swi_outside.specs.Devices.{Devices}
 use Rattle.swi_calls.specs.declared.machine.Machine.{Machine}
 use Rattle.swi_calls.specs.Flat.{machine_of, started}
 use Rattle.swi_image.specs.Format.{ImageData}
@@ -13,7 +11,7 @@ use Rattle.swi_hart.specs.Hart.{unbooted}
 use Rattle.swi_hart.specs.Leaving.{RamFailed}
 use Rattle.swi_hart.specs.declared.fault.BoardFault.{BoardFault}
 use Rattle.swi_hart.specs.declared.fault.BoardFault.TheVariants.{RamFault}
-use Rattle.swi_board.specs.Board.{BoardOf, BoardWithDevices}
+use Rattle.swi_board.specs.Board.{Around, BoardOf, BoardWithDevices, board_around}
 use Rattle.swi_board.specs.BoardRan.{with_ram}
 use Rattle.swi_board.specs.Entered.{Entered}
 use Rattle.swi_line.specs.declared.trace.Trace.{Trace}
@@ -38,14 +36,6 @@ given_of v cache p l asked = record { image = v; cache = cache; start = machine_
 -- the run that it is with this input
 abbrev pub with_input : Given → List ℕ → CachedRun
 with_input g left = record { image = g.image; cache = g.cache; start = started g.start left; limit = g.limit; trace = is_each g.telling }
-
--- the ram and the devices
-pub record Around : Type 0 where
-  pub ram : RamState
-  pub devices : Devices
-
-abbrev pub board_around : {S : Type 0} → BoardOf S → Around → BoardWithDevices S
-board_around b a = record { hart = b.hart; rom = b.rom; ram = a.ram; devices = a.devices }
 
 -- the board before the first step: the service has entered the block of the first instruction, which is one machine instruction
 pub record Booted {S : Type 0} (k : ServiceOf S) (g : Given) (rom : S) (before : Around) (b : BoardWithDevices S) : Type 0 where

@@ -26,7 +26,7 @@ use Rattle.swi_hart.specs.Hart.{HartData}
 use Rattle.swi_cached.specs.declared.run.CachedStop.{CachedStop}
 use Rattle.swi_cached.specs.declared.run.CachedStop.TheVariants as stop
 use Rattle.swi_cached.specs.Answers as run
-use Rattle.swi_cached.specs.CachedRan.{Around}
+use Rattle.swi_board.specs.Board.{Around}
 use Rattle.swi_hart.specs.declared.fault.BoardFault.{BoardFault}
 use Rattle.swi_hart.specs.declared.fault.BoardFault.TheVariants as board
 use Rattle.swi_cached.specs.Told.{addresses, history_of, next_error, told_line}

@@ -6,8 +6,7 @@ use Rattle.swi_isa.specs.Decode.{decoded}
 use Rattle.swi_memory.specs.declared.right.Right.TheVariants.{Write}
 use Rattle.swi_memory.specs.Bus.{AreaData, holds, fetched}
 use Rattle.swi_exec.specs.Registers.{Registers}
-use Rattle.swi_exec.specs.StoresText.{into_text}
-use Rattle.swi_exec.specs.StoresText as own
+use Rattle.swi_exec.specs.StoresText.{into_text, text_access_of}
 use Rattle.swi_calls.specs.Call.{number_of, first_argument, second_argument, third_argument}
 use Rattle.swi_calls.specs.declared.machine.Machine.{Machine}
 
@@ -20,7 +19,7 @@ read_into_text regs bus =
 -- the address at which the instruction, or the system call that it asks for, would store into the text
 abbrev pub text_store_of : Instr → Registers → List AreaData → Option ℕ
 text_store_of instr.Ecall regs bus = read_into_text regs bus
-text_store_of i regs bus = own.text_store_of i regs bus
+text_store_of i regs bus = text_access_of i regs bus
 
 abbrev pub instruction_store : Machine → Option Instr → Option ℕ
 instruction_store s None = None

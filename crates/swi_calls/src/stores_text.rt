@@ -37,6 +37,6 @@ pub fn text_store(i: &Instr, regs: &Regs, bus: &Bus) -> Option<u32>
 {
     match *i {
         Instr::Ecall => read_store(regs, bus),
-        _ => swi_exec::text_store(i, regs, bus),
+        _ => swi_exec::text_access(i, regs, bus),
     }
 }

@@ -12,7 +12,7 @@ ghost use Rattle.swi_chip.specs.Standing.{Begins, CanRead, Originates, Reads, Re
 use crate::answer::DAMAGED;
 use crate::chip::Chip;
 use crate::serving::{begin_of, length_of};
-use swi_rom::EBREAK;
+use swi_isa::EBREAK;
 
 /// The block that stands at an address of the cache, and the offset there.
 pub fn standing(chip: &Chip<'_>, pc: u32) -> Option<(u32, u32)>

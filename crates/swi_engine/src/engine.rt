@@ -25,8 +25,9 @@ use std::alloc::Global;
 use std::collections::VecDeque;
 use std::marker::Model;
 use swi_image::{Hints, ImageView};
+use swi_isa::EBREAK;
 use swi_outside::{CacheRam, Failed, Memory};
-use swi_rom::{CacheRom, Counts, EBREAK, RomStop, jump, reach};
+use swi_rom::{CacheRom, Counts, RomStop, jump, reach};
 
 /// A cache of slots of one size, each of which holds a block. While a slot is free the lowest is filled, and then
 /// the oldest block makes room. An engine copies the block behind control's beside it, word by word. After `new` no

@@ -15,7 +15,7 @@ use Rattle.swi_exec.specs.declared.done.FaultKind.TheVariants.{LoadAccess, Store
 use Rattle.swi_exec.specs.Arithmetic.{sum_of}
 use Rattle.swi_exec.specs.Execute.{Effect, faults, goes_on, lets_reserve, address_of, atomic_effect, atomic_word, executed, is_reserved, lets_store_word, lets_update, store_size}
 use Rattle.swi_exec.specs.Registers.{Registers, reg}
-use Rattle.swi_exec.specs.StoresText.{atomic_into_text, into_text, text_store_of}
+use Rattle.swi_exec.specs.StoresText.{atomic_into_text, into_text, text_access_of}
 
 -- where a store into the text begins
 begins : (bus : List AreaData) (may : Bool) (a n first : ℕ) → into_text bus may a n ≡ Some first → a ≡ first
@@ -53,7 +53,7 @@ module _ (regs : Registers) (bus : List AreaData) (a x : ℕ) (beside : (x + 4 �
   atomic_beside op rd first v pc is =
       either x bus (lets_update bus first) _ _ (stored_beside first 4 (atomic_word op (number_at bus first 4) v) (begins bus _ first 4 a is) (omega arith)) refl
 
-  beside_store : (i : Instr) (pc : ℕ) → text_store_of i regs bus ≡ Some a → fetched (executed i pc regs bus).bus x ≡ fetched bus x
+  beside_store : (i : Instr) (pc : ℕ) → text_access_of i regs bus ≡ Some a → fetched (executed i pc regs bus).bus x ≡ fetched bus x
   beside_store (instr.Store op rs1 rs2 imm) pc is =
       either x bus (holds bus Write (address_of regs rs1 imm) (store_size op)) _ _
       (stored_beside (address_of regs rs1 imm) (store_size op) (reg regs rs2) (begins bus _ (address_of regs rs1 imm) (store_size op) a is) (small_store op))
@@ -62,7 +62,7 @@ module _ (regs : Registers) (bus : List AreaData) (a x : ℕ) (beside : (x + 4 �
   beside_store i pc is = absurd (cc)
 
 -- an instruction that stores into the text leaves each word of which none of the four bytes from the store's address on is
-pub executed_beside : (i : Instr) (pc : ℕ) (regs : Registers) (bus : List AreaData) (a : ℕ) → text_store_of i regs bus ≡ Some a →
+pub executed_beside : (i : Instr) (pc : ℕ) (regs : Registers) (bus : List AreaData) (a : ℕ) → text_access_of i regs bus ≡ Some a →
     (x : ℕ) → (x + 4 ≤ a) ⊎ (a + 4 ≤ x) → fetched (executed i pc regs bus).bus x ≡ fetched bus x
 executed_beside i pc regs bus a is x beside = beside_store regs bus a x beside i pc is
 

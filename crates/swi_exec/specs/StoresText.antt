@@ -20,7 +20,7 @@ atomic_into_text ScW a regs bus = into_text bus (lets_store_word bus a && is_res
 atomic_into_text _ a regs bus = into_text bus (lets_update bus a) a 4
 
 -- the address at which the instruction would store into the text. What the call of an ECALL stores comes after it
-abbrev pub text_store_of : Instr → Registers → List AreaData → Option ℕ
-text_store_of (instr.Store op rs1 rs2 imm) regs bus = into_text bus (holds bus Write (address_of regs rs1 imm) (store_size op)) (address_of regs rs1 imm) (store_size op)
-text_store_of (instr.Atomic op rd rs1 rs2) regs bus = atomic_into_text op (reg regs rs1) regs bus
-text_store_of _ regs bus = None
+abbrev pub text_access_of : Instr → Registers → List AreaData → Option ℕ
+text_access_of (instr.Store op rs1 rs2 imm) regs bus = into_text bus (holds bus Write (address_of regs rs1 imm) (store_size op)) (address_of regs rs1 imm) (store_size op)
+text_access_of (instr.Atomic op rd rs1 rs2) regs bus = atomic_into_text op (reg regs rs1) regs bus
+text_access_of _ regs bus = None

@@ -6,7 +6,7 @@ ghost use Rattle.swi_isa.specs.declared.instr.Instr.TheVariants.{Ecall};
 ghost use Rattle.swi_memory.specs.Bus.{fetched};
 ghost use Rattle.swi_exec.specs.declared.done.Done.TheVariants.{Call};
 ghost use Rattle.swi_exec.specs.Execute.{executed, IsAligned, StaysUnlessNext};
-ghost use Rattle.swi_exec.specs.StoresText.{text_store_of};
+ghost use Rattle.swi_exec.specs.StoresText.{text_access_of};
 
 use crate::atomic::atomic;
 use crate::done::{Done, FaultKind};
@@ -18,7 +18,7 @@ use swi_memory::Bus;
 /// Executes one instruction that stands at pc, a multiple of 4, and says what comes after it.
 ///
 /// An ECALL, an EBREAK and a fault change neither registers nor memory: the caller does the system
-/// call, or ends the run. Only ECALL answers Call. FENCE changes nothing. Where `text_store` is None every text
+/// call, or ends the run. Only ECALL answers Call. FENCE changes nothing. Where `text_access` is None every text
 /// word stays as it is. The bits aq and rl of the atomic instructions have no meaning on one hart.
 ///
 /// Source: RISC-V unprivileged specification, RV32I, and the M and A extensions. What a misaligned access
@@ -32,7 +32,7 @@ pub fn exec(instr: &Instr, pc: u32, regs: &mut Regs, bus: &mut Bus) -> Done
     ensures aligned { IsAligned result }
     ensures unchanged { StaysUnlessNext result regs.old regs.new bus.old bus.new }
     ensures call { result ≡ Call → instr.now ≡ Ecall }
-    ensures text { text_store_of instr.now regs.old bus.old ≡ None → (a : ℕ) → fetched bus.new a ≡ fetched bus.old a }
+    ensures text { text_access_of instr.now regs.old bus.old ≡ None → (a : ℕ) → fetched bus.new a ≡ fetched bus.old a }
 {
     let next = pc.wrapping_add(4);
     // Not cut into functions: one arm for each form of instruction, as in the definition.

@@ -12,5 +12,5 @@ mod values;
 pub use done::{Done, FaultKind};
 pub use executor::exec;
 pub use registers::{A0, A1, A2, A7, Regs, SP, Slot};
-pub use stores_text::{store_into_text, text_store};
+pub use stores_text::{store_into_text, text_access};
 pub use values::{size_of_load, takes, value_of_load, value_of_op};

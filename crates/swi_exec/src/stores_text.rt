@@ -4,7 +4,7 @@
 ghost use Rattle.std.specs.Prelude.{◌≡◌};
 ghost use Rattle.swi_memory.specs.declared.right.Right.TheVariants.{Write};
 ghost use Rattle.swi_memory.specs.Bus.{holds};
-ghost use Rattle.swi_exec.specs.StoresText.{atomic_into_text, into_text, text_store_of};
+ghost use Rattle.swi_exec.specs.StoresText.{atomic_into_text, into_text, text_access_of};
 
 use crate::registers::Regs;
 use crate::values::size_of_store;
@@ -60,8 +60,8 @@ fn atomic_store(op: AtomicOp, a: u32, regs: &Regs, bus: &Bus) -> Option<u32>
 /// where it succeeds. An ECALL does not: its system call stores after it. A program's text is fixed for the
 /// cached machine.
 #[inline(always)]
-pub fn text_store(instr: &Instr, regs: &Regs, bus: &Bus) -> Option<u32>
-    ensures { result ≡ text_store_of instr.now regs.now bus.now }
+pub fn text_access(instr: &Instr, regs: &Regs, bus: &Bus) -> Option<u32>
+    ensures { result ≡ text_access_of instr.now regs.now bus.now }
 {
     match *instr {
         Instr::Store { op, rs1, imm, .. } => {

@@ -1,17 +1,16 @@
 use crate::bytes::bytes_of;
 use std::test::Fail;
+use swi_isa::EBREAK;
 use swi_program::one_text;
 use swi_render::Part::{self, *};
 use swi_render::{
     Sizes, address_of, exit_behind, falls, needs, part, render, render_word, sizes_of,
 };
 
-/// ECALL, an illegal word, EBREAK.
+/// ECALL, and an illegal word.
 const ECALL: u32 = 0x0000_0073;
 
 const ILLEGAL: u32 = 0;
-
-const EBREAK: u32 = 0x0010_0073;
 
 /// FENCE, as the assembler writes it.
 const FENCE: u32 = 0x0FF0_000F;

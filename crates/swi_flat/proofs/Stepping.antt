@@ -12,7 +12,7 @@ use Rattle.swi_exec.specs.Arithmetic.{sum_of}
 use Rattle.swi_exec.specs.Execute.{Effect, executed}
 use Rattle.swi_exec.specs.Laws.{IsStore, executed_beside, store_next}
 use Rattle.swi_exec.specs.Registers.{Registers}
-use Rattle.swi_exec.specs.StoresText.{text_store_of}
+use Rattle.swi_exec.specs.StoresText.{text_access_of}
 use Rattle.swi_exec.specs.declared.done.Done.{Done}
 use Rattle.swi_exec.specs.declared.done.Done.TheVariants.{Next}
 use Rattle.swi_calls.specs.Flat.{call_made, made}
@@ -80,7 +80,7 @@ store_goes range k i regs regs' bus bus' pc next d at stands stores does_is goes
     executes (address_at range k) regs regs' bus bus' word (address_at range (k + 1)) i here decodes (rw (← at) does)
 
 -- and what it leaves of the words, where it stores into the text
-pub fetches_beside : (i : Instr) (pc : ℕ) (regs : Registers) (bus bus' : List AreaData) (stored : Option ℕ) (a : ℕ) → stored ≡ text_store_of i regs bus → stored ≡ Some a → bus' ≡ (executed i pc regs bus).bus → AreSameBeside (fetched bus) (fetched bus') a
+pub fetches_beside : (i : Instr) (pc : ℕ) (regs : Registers) (bus bus' : List AreaData) (stored : Option ℕ) (a : ℕ) → stored ≡ text_access_of i regs bus → stored ≡ Some a → bus' ≡ (executed i pc regs bus).bus → AreSameBeside (fetched bus) (fetched bus') a
 fetches_beside i pc regs bus bus' stored a is stores same x beside = ap (λ b. fetched b x) same ∙ executed_beside i pc regs bus a (sym is ∙ stores) x beside
 
 -- the step by a micro-op that stores, and what it leaves of the words

@@ -8,7 +8,7 @@ ghost use Rattle.swi_micro.specs.Decoded.{AreDecoded};
 ghost use Rattle.swi_micro.specs.MicroOp.{address_at};
 
 use swi_calls::Machine;
-use swi_exec::{Done, Regs, exec, text_store};
+use swi_exec::{Done, Regs, exec, text_access};
 use swi_isa::{Instr, decode};
 use swi_memory::{Bus, WordRange};
 use swi_micro::{Decoded, MicroOp, address, forget, index_of, micro_op, step, store};
@@ -37,7 +37,7 @@ fn store_word(
     if !matches!(*instr, Instr::Store { .. } | Instr::Atomic { .. }) {
         return None;
     }
-    let stored = text_store(instr, regs, bus);
+    let stored = text_access(instr, regs, bus);
     match exec(instr, address(range, k), regs, bus) {
         Done::Next(_) => {
             if let Some(a) = stored {

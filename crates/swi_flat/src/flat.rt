@@ -19,8 +19,8 @@ use crate::advance::advance;
 use crate::coast::{Coasted, Gate, coast};
 use std::alloc::Global;
 use std::marker::Model;
-use swi_calls::{CallFault, End, Heap, Machine};
-use swi_exec::{Done, FaultKind, Regs, exec, text_store};
+use swi_calls::{CallFault, End, Heap, Machine, text_store};
+use swi_exec::{Done, FaultKind, Regs, exec, text_access};
 use swi_isa::decode;
 use swi_memory::{Bus, Layout};
 use swi_micro::{Decoded, forget, forget_all};
@@ -153,7 +153,7 @@ impl Flat {
             machine.fault(FaultKind::Illegal, pc);
             return Ok(());
         };
-        let stored = text_store(&instruction, &machine.regs, &machine.bus);
+        let stored = text_access(&instruction, &machine.regs, &machine.bus);
         match exec(&instruction, pc, &mut machine.regs, &mut machine.bus) {
             Done::Next(next) => {
                 machine.pc = next;
@@ -164,7 +164,7 @@ impl Flat {
                 Ok(())
             }
             Done::Call => {
-                let reads = swi_calls::text_store(&instruction, &machine.regs, &machine.bus);
+                let reads = text_store(&instruction, &machine.regs, &machine.bus);
                 if reads.is_some() {
                     forget_all(self.decoded.ops.as_mut_slice());
                 }

@@ -14,11 +14,9 @@ ghost use Rattle.swi_hart.specs.Service.{TransferServed};
 
 use crate::hart::{CodePlace, Control, ExitKind, Stage};
 use swi_image::ImageView;
+use swi_isa::EBREAK;
 use swi_outside::{CacheRam, Failed};
 use swi_rom::{CacheRom, RomStop};
-
-/// The word of EBREAK, which stands for an exit.
-pub const EBREAK: u32 = 0x0010_0073;
 
 /// What an exit is for, by the word `d` behind it. Two tests of a bit each: of four cases of one number the compiler makes
 /// a jump through a table.

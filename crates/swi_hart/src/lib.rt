@@ -10,7 +10,7 @@ mod quick;
 mod step;
 mod word;
 
-pub use exit::{EBREAK, jump};
+pub use exit::jump;
 pub use fault::BoardFault;
 pub use hart::{CodePlace, Control, ExitKind, Hart, Role, Stage};
 pub use plain::{plain_place, plain_step};

@@ -14,13 +14,10 @@ use crate::row::index_in_row;
 use std::alloc::Global;
 use std::marker::Model;
 use swi_image::ImageView;
-use swi_isa::decode;
+use swi_isa::{EBREAK, decode};
 use swi_memory::Bus;
 use swi_micro::{MicroOp, stop};
 use swi_outside::Memory;
-
-/// The word of EBREAK.
-const EBREAK: u32 = 0x0010_0073;
 
 /// A micro-op for each word of an image's row. One that stops where none is learnt, and where the word is left to the
 /// executor. In clauses it is the list of them.

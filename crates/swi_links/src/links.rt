@@ -9,8 +9,8 @@ ghost use Rattle.swi_links.specs.Undone.{is_own, coming_in, Undone, IsEmptied, R
 ghost use Rattle.swi_links.specs.Gone.{Gone};
 
 use crate::chains::Chains;
+use swi_isa::EBREAK;
 use swi_outside::{CacheRam, Failed};
-use swi_rom::EBREAK;
 
 /// Takes out of their lists all links into a block, newest first, and then all links from its own words. The links into it
 /// stand in list `list`, and it has `size` words from `first` on. Links of other blocks are exits again; their number is the

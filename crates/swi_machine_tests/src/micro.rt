@@ -5,7 +5,7 @@
 ghost use Rattle.std.specs.Prelude.{◌<◌};
 
 use std::alloc::Global;
-use swi_exec::{Done, Regs, exec, text_store};
+use swi_exec::{Done, Regs, exec, text_access};
 use swi_isa::{Instr, Reg, decode};
 use swi_memory::{Bus, Layout, Segment, WordRange};
 use swi_micro::{MicroOp, address, index_of, micro_op, step};
@@ -107,7 +107,7 @@ fn agrees(word: u32, k: u32, x: (u32, u32), one: &mut Bus, other: &mut Bus) -> b
     let pc = 0x10000 + 4 * k;
     let mut regs = regs_of(x.0, x.1);
     let mut wanted = regs_of(x.0, x.1);
-    let stores = text_store(&instr, &wanted, other).is_some();
+    let stores = text_access(&instr, &wanted, other).is_some();
     let done = exec(&instr, pc, &mut wanted, other);
     match step(
         &micro_op(&instr, &TEXT, k),

@@ -45,10 +45,10 @@ use Rattle.swi_outside.specs.Source.{SourceState, HasGiven}
 use Rattle.swi_outside.specs.Told.{AsTold}
 use Rattle.swi_outside.proofs.ToldLemmas.{as_told_said}
 use Rattle.swi_rom.specs.Service.{ServiceOf}
-use Rattle.swi_board.specs.Board.{BoardOf}
+use Rattle.swi_board.specs.Board.{BoardOf, Around}
 use Rattle.swi_cached.specs.declared.run.CachedStop.{CachedStop}
 use Rattle.swi_cached.specs.Answers.{InSteps}
-use Rattle.swi_cached.specs.CachedRan.{Around, Given}
+use Rattle.swi_cached.specs.CachedRan.{Given}
 use Rattle.swi_measure_command.specs.MeasureMade.{IsMadeRun, MadeRamFailed, MadeRan, MadeRunBroke, MeasuresOver, SummaryBroke, board_summary, made_ending, made_ending_by, made_run, made_summary, measure_checks, measure_task, nowhere, summary_by}
 use Rattle.swi_task.proofs.Refusals.{asked_none, calm_causes, causes_of, checked_by, contents_stay, gave_none, given_all, given_short, late, none_before, none_long, none_longer, out_causes, passed_none, refused_late, rose_cause, same_all, short_refused, sized_along, sized_err, sized_ok, stores_none}
 use Rattle.swi_cached_task.proofs.Caching.{cached_run_is, keeps_run, work_is}

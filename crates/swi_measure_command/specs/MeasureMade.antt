@@ -18,7 +18,7 @@ use Rattle.swi_rom.specs.Record.{Record}
 use Rattle.swi_rom.specs.Service.{Cache}
 use Rattle.swi_hart.specs.Hart.{HartData}
 use Rattle.swi_cached.specs.Cached.{CachedRun, run_of, end_of, instructions_after, record_after, words_after}
-use Rattle.swi_cached.specs.CachedRan.{Around}
+use Rattle.swi_board.specs.Board.{Around}
 use Rattle.swi_line.specs.declared.trace.Trace.TheVariants as trace
 use Rattle.swi_board.specs.Fetching.{FetchedFront}
 use Rattle.swi_report.specs.declared.stats.Work.{Work}

@@ -18,7 +18,7 @@ use Rattle.swi_hart.specs.MachineStep.{BoardWithRam}
 use Rattle.swi_hart.specs.Leaving.{moved, transfer_at}
 use Rattle.swi_hart.specs.declared.fault.BoardFault.{BoardFault}
 use Rattle.swi_hart.specs.declared.fault.BoardFault.TheVariants.{RamFault, SinkFault, SourceFault}
-use Rattle.swi_board.specs.Board.{BoardOf, BoardWithDevices}
+use Rattle.swi_board.specs.Board.{BoardOf, BoardWithDevices, Around, board_around}
 use Rattle.swi_board.specs.BoardRan.{BrokeOff}
 use Rattle.swi_board.specs.Fetching.{FrontSince}
 use Rattle.swi_board.specs.Moments.{GoesOn, Moment, event as instruction}
@@ -42,7 +42,7 @@ use Rattle.swi_prefetch.specs.EngineLaws.{engine_laws}
 use Rattle.swi_prefetch.specs.Events.{Turn, of_hart, of_engine, round, rounds, turned, turned_all}
 use Rattle.swi_prefetch.specs.Prefetching.{EngineEvent, GivenUp, HartEvent, OfBoards, PcShort, PrefetchState, StepsFew, TakesTurns, WordsFew}
 use Rattle.swi_prefetch.specs.Running.{AheadFailed, BrokeIn, CameOn, EngineBroke, EngineStopped, FromHere, GoesBefore, HartBroke, HartStopped, KeepsBehind, OfBoard, RanTo, Rises, RoundRises, RoundStopped, RunBroke, SameHart, StepsUpTo, Whole, WordsUpTo, goes_below, whole}
-use Rattle.swi_prefetch.specs.Tracking.{Around, BoardTracks, Led, Leads, board_around, point_around}
+use Rattle.swi_prefetch.specs.Tracking.{BoardTracks, Led, Leads, point_around}
 use Rattle.swi_prefetch.proofs.Writing.{keeps_fetched}
 
 abbrev pub state_of : Whole → PrefetchState

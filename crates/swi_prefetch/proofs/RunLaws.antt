@@ -17,7 +17,7 @@ use Rattle.swi_rom.specs.Served.{SameFrom}
 use Rattle.swi_rom.specs.Service.{Setting}
 use Rattle.swi_hart.specs.declared.fault.BoardFault.{BoardFault}
 use Rattle.swi_hart.specs.Hart.{original, slots, unbooted}
-use Rattle.swi_board.specs.Board.{BoardOf}
+use Rattle.swi_board.specs.Board.{BoardOf, Around, board_around}
 use Rattle.swi_board.specs.Moments.{GoesOn, Moment, Policy, completed, counted, event as instruction, executed, fell, led, next_fetch, stepped_at}
 use Rattle.swi_board.specs.Tracking.{Point}
 use Rattle.swi_board.specs.Transfers.{at_fall, before_last}
@@ -32,7 +32,7 @@ use Rattle.swi_prefetch.specs.Events.{Turn, of_engine, booted, engine_event, rou
 use Rattle.swi_prefetch.specs.Prefetching.{Booted, TakesTurns, empty_for}
 use Rattle.swi_prefetch.specs.Running.{CameOn, FromHere, OfBoard, RanTo, RoundStopped, RunBroke, Whole, goes_below, whole}
 use Rattle.swi_prefetch.specs.Scheduled.{AheadBroke, AheadEnded, AheadRun, moment_after, moment_of, setting_for}
-use Rattle.swi_prefetch.specs.Tracking.{Around, Begins, BoardTracks, Leads, board_around, point_around}
+use Rattle.swi_prefetch.specs.Tracking.{Begins, BoardTracks, Leads, point_around}
 use Rattle.swi_prefetch.specs.Turns.{event_at}
 use Rattle.swi_prefetch.proofs.Rounds.{rounds_suc, turned_more}
 

@@ -10,7 +10,7 @@ use Rattle.swi_hart.specs.Bounds.{most}
 use Rattle.swi_hart.specs.Hart.{HartData}
 use Rattle.swi_hart.specs.declared.fault.BoardFault.{BoardFault}
 use Rattle.swi_hart.specs.declared.fault.BoardFault.TheVariants.{RamFault}
-use Rattle.swi_board.specs.Board.{BoardOf}
+use Rattle.swi_board.specs.Board.{BoardOf, Around, board_around}
 use Rattle.swi_board.specs.Fetching.{FrontSince}
 use Rattle.swi_board.specs.Moments.{GoesOn, Moment}
 use Rattle.swi_board.specs.Ran.{Unasked, next_of}
@@ -20,7 +20,7 @@ use Rattle.swi_engine.specs.State.{EngineData, kept_by, setting_of}
 use Rattle.swi_run_laws.specs.Broken.{Broke, InOrder}
 use Rattle.swi_prefetch.specs.Events.{Turn, of_hart, of_engine, round, rounds, turned_all}
 use Rattle.swi_prefetch.specs.Prefetching.{GivenUp, HartEvent, OfBoards, PcShort, TakesTurns}
-use Rattle.swi_prefetch.specs.Tracking.{Around, BoardTracks, Leads, board_around, point_around}
+use Rattle.swi_prefetch.specs.Tracking.{BoardTracks, Leads, point_around}
 
 -- the machine, whole
 pub record Whole : Type 0 where

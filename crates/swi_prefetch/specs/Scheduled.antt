@@ -10,7 +10,7 @@ use Rattle.swi_rom.specs.Coherent.{Coherent}
 use Rattle.swi_rom.specs.Served.{SameFrom}
 use Rattle.swi_rom.specs.Service.{Setting}
 use Rattle.swi_hart.specs.declared.fault.BoardFault.{BoardFault}
-use Rattle.swi_board.specs.Board.{BoardOf}
+use Rattle.swi_board.specs.Board.{BoardOf, Around, board_around}
 use Rattle.swi_board.specs.Moments.{GoesOn, Moment}
 use Rattle.swi_board.specs.Tracking.{Point}
 use Rattle.swi_engine.specs.Engine.{extent_of, span_of}
@@ -18,7 +18,7 @@ use Rattle.swi_engine.specs.State.{EngineData, kept_by, setting_of}
 use Rattle.swi_prefetch.specs.Events.{Turn, of_hart, of_engine, booted, rounds, turned_all}
 use Rattle.swi_prefetch.specs.Prefetching.{empty_for}
 use Rattle.swi_prefetch.specs.Running.{RoundStopped}
-use Rattle.swi_prefetch.specs.Tracking.{Around, BoardTracks, board_around, point_around}
+use Rattle.swi_prefetch.specs.Tracking.{BoardTracks, point_around}
 
 pub record AheadRun : Type 0 where
   pub image : ImageData

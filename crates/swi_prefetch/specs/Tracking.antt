@@ -6,7 +6,7 @@ use Rattle.swi_outside.specs.Devices.{Devices}
 use Rattle.swi_calls.specs.declared.machine.Machine.{Machine}
 use Rattle.swi_image.specs.Format.{ImageData}
 use Rattle.swi_rom.specs.Served.{SameFrom}
-use Rattle.swi_board.specs.Board.{BoardOf, BoardWithDevices}
+use Rattle.swi_board.specs.Board.{Around, BoardOf, BoardWithDevices, board_around}
 use Rattle.swi_board.specs.Moments.{Moment}
 use Rattle.swi_board.specs.Runs.{unfetched}
 use Rattle.swi_board.specs.Tracking.{Point, Tracks, point_of}
@@ -15,14 +15,6 @@ use Rattle.swi_engine.specs.Service.{engine_service}
 use Rattle.swi_engine.specs.State.{EngineData, kept_by, setting_of}
 use Rattle.swi_prefetch.specs.Events.{Turn, booted, turned_all}
 use Rattle.swi_prefetch.specs.Prefetching.{OfBoards, empty_for}
-
--- the ram and the devices
-pub record Around : Type 0 where
-  pub ram : RamState
-  pub devices : Devices
-
-abbrev pub board_around : BoardOf EngineData → Around → BoardWithDevices EngineData
-board_around b a = record { hart = b.hart; rom = b.rom; ram = a.ram; devices = a.devices }
 
 abbrev pub point_around : BoardOf EngineData → Around → Point
 point_around b a = point_of engine_service (board_around b a)

@@ -37,7 +37,7 @@ use Rattle.swi_hart.specs.declared.fault.BoardFault.{BoardFault}
 use Rattle.swi_hart.specs.declared.fault.BoardFault.TheVariants as fault
 use Rattle.swi_hart.specs.Hart.{HartData, unbooted}
 use Rattle.swi_hart.specs.Leaving.{RamFailed}
-use Rattle.swi_board.specs.Board.{BoardOf}
+use Rattle.swi_board.specs.Board.{BoardOf, Around}
 use Rattle.swi_board.specs.Fetching.{HasFetched}
 use Rattle.swi_board.specs.Moments.{Moment, event as instruction}
 use Rattle.swi_board.specs.Ran.{Unasked, next_of}
@@ -52,7 +52,7 @@ use Rattle.swi_prefetch.proofs.RunLaws.{run_breaks, run_ends}
 use Rattle.swi_prefetch.proofs.Writing.{booted_written, written}
 use Rattle.swi_prefetch.specs.Running.{KeepsBehind, OfBoard, RanTo, RunBroke, whole}
 use Rattle.swi_prefetch.specs.Scheduled.{AheadBroke, AheadEnded, AheadRun, AreBegun, end_of, moment_after, moment_of, setting_for, words_of}
-use Rattle.swi_prefetch.specs.Tracking.{Around, Begins, point_around}
+use Rattle.swi_prefetch.specs.Tracking.{Begins, point_around}
 use Rattle.swi_answer.specs.declared.answer.Ending.{Ending}
 use Rattle.swi_answer.specs.declared.answer.Refusal.{Refusal}
 use Rattle.swi_answer.specs.declared.answer.Refusal.TheVariants as refusal

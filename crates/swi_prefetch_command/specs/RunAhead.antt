@@ -21,7 +21,7 @@ use Rattle.swi_rom.specs.Coherent.{Coherent}
 use Rattle.swi_rom.specs.Record.{Record, writes}
 use Rattle.swi_rom.specs.Served.{SameFrom}
 use Rattle.swi_hart.specs.Hart.{HartData}
-use Rattle.swi_board.specs.Board.{BoardOf}
+use Rattle.swi_board.specs.Board.{BoardOf, Around}
 use Rattle.swi_board.specs.Fetching.{HasFetched}
 use Rattle.swi_board.specs.Moments.{Moment}
 use Rattle.swi_engine.specs.Engine.{engine_copies, engine_words, extent_of, span_of}
@@ -30,7 +30,6 @@ use Rattle.swi_prefetch.specs.Events.{Turn, of_hart, rounds}
 use Rattle.swi_prefetch.specs.Prefetching.{PrefetchData, empty_for}
 use Rattle.swi_prefetch.specs.Running.{OfBoard}
 use Rattle.swi_prefetch.specs.Scheduled.{AheadEnded, AheadRun, AreBegun, AreRounds, end_of, moment_after, moment_of, setting_for, words_of}
-use Rattle.swi_prefetch.specs.Tracking.{Around}
 use Rattle.swi_cached.specs.Cached.{unfetched}
 use Rattle.swi_report.specs.declared.engine.EngineWork.{EngineWork}
 use Rattle.swi_report.specs.declared.stats.Work.{Work}

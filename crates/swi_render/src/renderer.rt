@@ -8,10 +8,7 @@ ghost use Rattle.swi_render.specs.Rendering.{falls_of, ending_of, len, rendering
 use crate::parts::Part;
 use arrayvec::ArrayVec;
 use swi_encode::encode;
-use swi_isa::{BranchOp, ImmOp, Instr, Reg, decode};
-
-/// The word of EBREAK.
-pub(crate) const EBREAK: u32 = 0x0010_0073;
+use swi_isa::{BranchOp, EBREAK, ImmOp, Instr, Reg, decode};
 
 /// The LUI of a load of a value.
 fn load_upper(rd: Reg, value: u32) -> u32

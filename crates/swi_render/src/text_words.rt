@@ -6,8 +6,9 @@ ghost use Rattle.swi_render.specs.Rendering.{AreThe, fall_exit};
 ghost use Rattle.swi_render.specs.ImageOf.{address_of, rendering_at, falls_at};
 ghost use Rattle.swi_render.specs.Cut.{needs_of};
 
-use crate::renderer::{EBREAK, falls, needs, render};
+use crate::renderer::{falls, needs, render};
 use arrayvec::ArrayVec;
+use swi_isa::EBREAK;
 use swi_program::TextView;
 
 /// How many words a text word takes in a block.

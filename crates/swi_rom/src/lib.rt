@@ -6,4 +6,4 @@ mod rom;
 mod write;
 
 pub use rom::{CacheRom, Counts, RomStop};
-pub use write::{EBREAK, copy, jump, reach};
+pub use write::{copy, jump, reach};

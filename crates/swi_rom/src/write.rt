@@ -11,9 +11,6 @@ use swi_image::ImageView;
 use swi_isa::{Instr, Reg};
 use swi_outside::{CacheRam, Failed};
 
-/// The word of EBREAK.
-pub const EBREAK: u32 = 0x0010_0073;
-
 /// The number of x0, for a jump that keeps no return address.
 const X0: u32 = 0;
 

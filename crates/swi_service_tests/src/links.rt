@@ -1,8 +1,8 @@
 use std::test::Fail;
 use swi_devices::VecRam;
+use swi_isa::EBREAK;
 use swi_links::{Chains, undo};
 use swi_outside::CacheRam;
-use swi_rom::EBREAK;
 
 #[test]
 fn words_leave_a_list_in_any_order(rt: HostRuntime) -> Result<(), Fail> {

@@ -10,6 +10,7 @@ pub record TableData : Type 0 where
   -- of each slot the links into it
   pub chains : ChainsData
 
+-- what is kept of a block that isn't placed
 abbrev pub nowhere : ℕ
 nowhere = 2 ^ 32 - 1
 

@@ -9,8 +9,8 @@ use crate::slots::SlotRom;
 use crate::table::LinkTable;
 use std::alloc::Global;
 use std::marker::Model;
+use swi_isa::EBREAK;
 use swi_outside::{CacheRam, Failed, Memory};
-use swi_rom::EBREAK;
 
 /// A service that finds the links into a slot by looking through all words, and a block's slot by looking
 /// through the slots.

@@ -14,7 +14,9 @@ use Rattle.swi_tally.specs.declared.tallies.Frame.{Frame}
 use Rattle.swi_tally.specs.declared.tallies.Seat.{Seat}
 use Rattle.swi_tally.specs.Masks.{has, has_at}
 use Rattle.swi_tally.specs.Exits.{ExitsData, AreExits, link_at, links_of}
-use Rattle.swi_tally.specs.Tally.{TallyData, InShape, Serves, kept_by, more_of, nowhere, queue_of}
+use Rattle.swi_tally.specs.Tally.{TallyData, InShape, Serves, kept_by, more_of}
+use Rattle.swi_slots.specs.Homes.{nowhere}
+use Rattle.swi_ring.specs.Ring.{queue_of}
 use Rattle.swi_tally.specs.Tallies.{Row, AreServing, IsFrame, SeatServes, empty_of, empty_tallies, first_row, row_at, row_if}
 
 -- no exit is a link

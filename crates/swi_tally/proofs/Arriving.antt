@@ -16,7 +16,8 @@ use Rattle.swi_tally.specs.Masks.{has_at}
 use Rattle.swi_tally.specs.Exits.{ExitsData}
 use Rattle.swi_links.specs.Chains.{Has}
 use Rattle.swi_links.proofs.Numbers.{append_here}
-use Rattle.swi_tally.specs.Tally.{TallyData, InShape, Moved, Stands, Receded, Arrives, arrival_of, behind, freed, kept_by, queue_of, setting_of, settled, span, spot}
+use Rattle.swi_tally.specs.Tally.{TallyData, InShape, Moved, Stands, Receded, Arrives, arrival_of, freed, kept_by, setting_of, settled, span}
+use Rattle.swi_ring.specs.Ring.{behind, queue_of, spot}
 use Rattle.swi_tally.proofs.Leading.{leads_settled}
 use Rattle.swi_tally.proofs.Queueing.{queue_long, queue_next, settled_shape, settled_queue}
 

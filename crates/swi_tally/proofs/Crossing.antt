@@ -17,7 +17,8 @@ use Rattle.swi_tally.specs.declared.tally.Placing.TheVariants.{Slots, Ring}
 use Rattle.swi_tally.specs.Masks.{has, has_at}
 use Rattle.swi_tally.specs.Exits.{ExitsData, AreExits, link_of, links_of}
 use Rattle.swi_links.specs.Chains.{Has}
-use Rattle.swi_tally.specs.Tally.{TallyData, InShape, Moved, Stands, Serves, Links, Arrives, AreLeading, Leads, arrival_of, counted_tally, kept_by, policy_of, queue_of, setting_of}
+use Rattle.swi_tally.specs.Tally.{TallyData, InShape, Moved, Stands, Serves, Links, Arrives, AreLeading, Leads, arrival_of, counted_tally, kept_by, policy_of, setting_of}
+use Rattle.swi_ring.specs.Ring.{queue_of}
 use Rattle.swi_tally.proofs.Sets.{or_none}
 use Rattle.swi_tally.proofs.Linking.{links_with, linked_is}
 use Rattle.swi_tally.proofs.Queueing.{queue_long}

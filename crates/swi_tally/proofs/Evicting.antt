@@ -7,7 +7,9 @@ use Rattle.swi_rom.specs.Collected.{undone_apart}
 use Rattle.swi_tally.specs.Masks.{has_at}
 use Rattle.swi_tally.specs.Groups.{Left, NoneIn, held_in, is_in}
 use Rattle.swi_tally.specs.Exits.{ExitsData, AreExits, links_of}
-use Rattle.swi_tally.specs.Tally.{TallyData, InShape, Before, Bounded, Leads, Moved, kept_by, nowhere, queue_of, spot, without_oldest}
+use Rattle.swi_tally.specs.Tally.{TallyData, InShape, Before, Bounded, Leads, Moved, kept_by, without_oldest}
+use Rattle.swi_slots.specs.Homes.{nowhere}
+use Rattle.swi_ring.specs.Ring.{queue_of, spot}
 use Rattle.swi_links.specs.Chains.{Distinct}
 use Rattle.swi_tally.proofs.Leading.{leads_left, none_before}
 use Rattle.swi_tally.proofs.Sets.{and_all, not_on}

@@ -5,7 +5,9 @@ use Rattle.std.proofs.lemmas.List.{length-set, length-map, get_or-set_same, get_
 use Rattle.swi_rom.specs.Record.{Placement}
 use Rattle.swi_links.specs.Chains.{Has, Distinct}
 use Rattle.swi_links.proofs.Numbers.{append_distinct, append_has, append_here, distinct_fewer, has_append}
-use Rattle.swi_tally.specs.Tally.{TallyData, InShape, nowhere, span, spot, queue_of, without_oldest, settled}
+use Rattle.swi_tally.specs.Tally.{TallyData, InShape, span, without_oldest, settled}
+use Rattle.swi_slots.specs.Homes.{nowhere}
+use Rattle.swi_ring.specs.Ring.{spot, queue_of}
 
 pub oldest_has : (s : TallyData) (b : ℕ) (rest : List ℕ) → s.queue ≡ b ∷ rest → Has s.queue b
 oldest_has s b rest is = subst (λ (xs : List ℕ). Has xs b) (sym is) (inl refl)

@@ -8,7 +8,9 @@ use Rattle.swi_rom.specs.Policy.{Arrival, evicted, linked, more_service, with_li
 use Rattle.swi_rom.specs.declared.rom.Counts.{Counts}
 use Rattle.swi_links.specs.Chains.{Has, Distinct}
 use Rattle.swi_slots.specs.Fifo as slots
+use Rattle.swi_slots.specs.Homes.{nowhere}
 use Rattle.swi_ring.specs.Fifo as ring
+use Rattle.swi_ring.specs.Ring.{behind, queue_of}
 use Rattle.swi_tally.specs.declared.tally.Placing.{Placing}
 use Rattle.swi_tally.specs.declared.tally.Placing.TheVariants.{Slots, Ring}
 use Rattle.swi_tally.specs.Masks.{has_at}
@@ -31,27 +33,11 @@ pub record TallyData : Type 0 where
   pub room : ℕ
   pub counts : Counts
 
--- what is kept of a block that isn't placed
-abbrev pub nowhere : ℕ
-nowhere = 2 ^ 32 - 1
-
 abbrev pub span : TallyData → ℕ
 span s = s.slots * s.slot_words
 
 abbrev pub setting_of : TallyData → Setting
 setting_of s = record { slots = s.slots; slot_words = s.slot_words; programs = 1 }
-
--- a block where it stands
-abbrev pub spot : List ℕ → ℕ → Placement
-spot homes b = record { program = 0; block = b; first = slice_index homes b }
-
-unfoldable pub queue_of : List ℕ → List ℕ → List Placement
-queue_of homes queue = map (spot homes) queue
-
--- a ring keeps the word behind the block that was placed last, once one was placed
-abbrev pub behind : ℕ → List ℕ
-behind zero = []
-behind (suc n) = suc n ∷ []
 
 abbrev pub more_of : Placing → ℕ → List ℕ
 more_of Slots next = []

@@ -24,9 +24,9 @@ pub returns-after-stored-clause-decoded : goal.returns-after-stored-clause-decod
 returns-after-stored-clause-decoded c = elim c.match-stored.branch [
   | in-Some w ↦
       rw w.ops-is (w.forget.ensures (fetched c.args.bus.now) (fetched c.exec.new.bus)
-      (fetches_beside c.args.instr.now c.address.result c.args.regs.now c.args.bus.now c.exec.new.bus c.text_store-stored.result w.in-Some.a c.text_store-stored.ensures w.in-Some.is c.exec.ensures.bus)
+      (fetches_beside c.args.instr.now c.address.result c.args.regs.now c.args.bus.now c.exec.new.bus c.text_access-stored.result w.in-Some.a c.text_access-stored.ensures w.in-Some.is c.exec.ensures.bus)
       c.requires.decoded)
   | in_default-stored w ↦
       rw w.ops-is (same_words (fetched c.args.bus.now) (fetched c.exec.new.bus) c.args.range.now c.args.ops.now
-      (c.exec.ensures.text (sym c.text_store-stored.ensures ∙ w.in_default-stored.is)) c.requires.decoded)
+      (c.exec.ensures.text (sym c.text_access-stored.ensures ∙ w.in_default-stored.is)) c.requires.decoded)
 ]

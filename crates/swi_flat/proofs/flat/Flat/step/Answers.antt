@@ -29,7 +29,7 @@ invariant_of-self-in-Some-stored g c =
       decoded =
           written_back c.exec.new.bus d.range d.ops c.forget.new.ops (c.forget.auto.ops ∙ c.as_mut_slice.ensures.len)
           (c.forget.ensures (fetched m.bus) (fetched c.exec.new.bus)
-          (fetches_beside c.in-Some-decode.instruction m.pc m.regs m.bus c.exec.new.bus c.text_store-stored.result c.in-Some-stored.a c.text_store-stored.ensures c.in-Some-stored.is c.exec.ensures.bus) before);
+          (fetches_beside c.in-Some-decode.instruction m.pc m.regs m.bus c.exec.new.bus c.text_access-stored.result c.in-Some-stored.a c.text_access-stored.ensures c.in-Some-stored.is c.exec.ensures.bus) before);
     }
 
 -- a call that would not read into the text

@@ -3,7 +3,8 @@ use Rattle.swi_rom.specs.Policy.{evicted}
 use Rattle.swi_tally.specs.Exits.{ExitsData}
 use Rattle.swi_tally.specs.Groups.{Left}
 use Rattle.swi_tally.specs.Masks.{has_at}
-use Rattle.swi_tally.specs.Tally.{TallyData, Moved, kept_by, queue_of}
+use Rattle.swi_tally.specs.Tally.{TallyData, Moved, kept_by}
+use Rattle.swi_ring.specs.Ring.{queue_of}
 use Rattle.swi_tally.proofs.Queueing.{oldest_known}
 use Rattle.swi_tally.proofs.Evicting.{leaves_call, evict_kept, evict_moved, left_is, none_into}
 use Rattle.swi_tally.proofs.Marking.{left_marks, marks_as}
