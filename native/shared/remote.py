@@ -29,10 +29,13 @@ class Remote:
         self.connect(place, qemu)
 
     def connect(self, place, qemu):
+        is_path = isinstance(place, str)
         while True:
-            self.socket = socket.socket(socket.AF_UNIX if isinstance(place, str) else socket.AF_INET)
+            self.socket = socket.socket(socket.AF_UNIX if is_path else socket.AF_INET)
             try:
-                return self.socket.connect(place if isinstance(place, str) else ("localhost", place))
+                if not is_path:  # each packet leaves at once: one behind an acknowledgement would wait 40 ms
+                    self.socket.setsockopt(socket.IPPROTO_TCP, socket.TCP_NODELAY, 1)
+                return self.socket.connect(place if is_path else ("localhost", place))
             except OSError:
                 self.socket.close()
                 if qemu.poll() is not None:
