@@ -60,6 +60,7 @@ class Traced:
     def __init__(self, made, text, steps, most):
         self.made, self.text, self.steps = made, text, min(steps, most)
         self.whole = steps <= most
+        self.limit = "" if self.whole else f"by the first {self.steps} steps (--trace)"
         self.course = tracing.Course(self.text)
         words = ["--steps", str(self.steps if not self.whole else made.options.first or made.options.steps), "--heap", str(made.options.heap), "--stack", str(made.options.stack), "--cache", str(runs.LARGEST)]
         self.reader = tracing.Traced(made.runner, made.file, made.input, words, self.steps)

@@ -108,8 +108,8 @@ class Report:
             yield "hot: the file names no functions (it was stripped), so pieces of its text between jumps and calls stand in for them"
         if self.sweep.executions and not self.sweep.executions.whole:
             yield f"hot and the returns are by the first {self.sweep.executions.steps} steps (--counted)"
-        if self.sweep.traced and not self.sweep.traced.whole:
-            yield f"least is by the first {self.sweep.traced.steps} steps (--trace)"
+        if self.sweep.traced and self.sweep.traced.limit:
+            yield f"least, and the share of returns outside the memo: {self.sweep.traced.limit}"
         yield from left_out(self.sweep)
 
     def head(self):
@@ -220,6 +220,7 @@ class Report:
     def beside(self, row):
         """What the cache misses beside the best eviction, and what it takes."""
         if row.fewest is not None:
-            yield f"eviction: first in, first out misses {row.first_out:.3f} times for each 1000 steps, the best possible {row.fewest:.3f}"
+            limit = f", {self.sweep.traced.limit}" if self.sweep.traced.limit else ""
+            yield f"eviction{limit}: first in, first out misses {row.first_out:.3f} times for each 1000 steps, the best possible {row.fewest:.3f}"
         if self.board:
             yield f"it takes {self.board.ram(row.cache)} bytes of fast RAM and {self.board.flash(row.cache)} of flash, runtime and tables among them"

@@ -312,12 +312,14 @@ def remedy(line, file, name):
 
 
 def refuse(run, name, options, file, faults=False):
-    """Tells why a run gives no counts to compare, and what to do; one that faults does only where `faults` is set."""
+    """Tells why a run gives no counts to compare, and what to do; one that faults gives some where `faults` is set, and is told of too."""
     more = remedy(run.line, file, name) if run.status in REFUSED else ""
     if run.status == 240 and run.line.startswith("spent:") and not options.first:
         raise Wrong(f"{name} doesn't end within {options.steps} steps ({run.line}): give more by --steps, or count its first N steps by --first N")
-    if run.status == 241 and run.line.startswith("fault:") and not faults:
-        raise Wrong(f"{name} faults ({run.line}){more}")
+    if run.status == 241 and run.line.startswith("fault:"):
+        if not faults:
+            raise Wrong(f"{name} faults ({run.line}){more}")
+        say(f"{name} faults ({run.line}){more}")
     if run.status == 242 and run.line.startswith("store into text"):
         raise Wrong(f"{name} stores into its own text, so no cache can run it ({run.line}){more}")
     if run.status == 250 and run.counts is None:
