@@ -1,4 +1,5 @@
 """A debugger's end of qemu's stub: just what native/run needs (GDB's manual, Remote Serial Protocol)."""
+import contextlib
 import socket
 import time
 
@@ -44,8 +45,11 @@ class Remote:
 
     def send(self, text):
         packet = text.encode()
+        self.put(b"$%s#%02x" % (packet, sum(packet) % 256))
+
+    def put(self, data):
         try:
-            self.socket.sendall(b"$%s#%02x" % (packet, sum(packet) % 256))
+            self.socket.sendall(data)
         except OSError:
             raise Gone from None
 
@@ -54,7 +58,7 @@ class Remote:
         while (end := self.held.find(b"#")) < 0 or len(self.held) < end + 3:
             self.fill()
         packet, self.held = self.held[: end + 3], self.held[end + 3 :]
-        self.socket.sendall(b"+")
+        self.put(b"+")
         return packet[packet.index(b"$") + 1 : -3].decode()
 
     def fill(self):
@@ -85,6 +89,10 @@ class Remote:
         data = bytes.fromhex(self.ask(f"m{address:x},{4 * count:x}"))
         return [int.from_bytes(data[k : k + 4], "little") for k in range(0, len(data), 4)]
 
+    def pc(self):
+        """The last of all registers."""
+        return int.from_bytes(bytes.fromhex(self.ask("g"))[-4:], "little")
+
     def write(self, address, data):
         """These bytes."""
         if self.ask(f"M{address:x},{len(data):x}:{data.hex()}") != "OK":
@@ -112,13 +120,13 @@ class Remote:
 
     def interrupt(self):
         self.socket.settimeout(None)
-        self.socket.sendall(b"\x03")
+        self.put(b"\x03")
         self.receive()
 
 
 def quit_machine(path):
-    """Ends qemu by its monitor, without a word."""
-    with socket.socket(socket.AF_UNIX) as monitor:
+    """Ends qemu by its monitor, without a word, unless it has ended."""
+    with socket.socket(socket.AF_UNIX) as monitor, contextlib.suppress(OSError):
         monitor.connect(path)
         monitor.sendall(b"quit\n")
         while monitor.recv(4096):
