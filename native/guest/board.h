@@ -29,6 +29,7 @@ enum status {
     STATUS_ELF = 243,
     STATUS_IMAGE = 244,
     STATUS_CACHE = 247,
+    STATUS_DEVICE = 249,
     STATUS_NO_IMAGE = 252,
     STATUS_BOARD = 253,  /* the board can't give the program what it asks for */
     STATUS_RUNTIME = 254 /* a trap of the runtime itself, or one that isn't the program's */
@@ -39,7 +40,7 @@ enum stream { STREAM_IN, STREAM_OUT, STREAM_ERR, STREAM_FILE };
 void host_open(void);
 void host_dump(const char *name, const void *from, uint32_t count); /* writes a file in the folder of qemu */
 uint32_t host_read(void *to, uint32_t count); /* the bytes read: fewer than `count` at the end of the input */
-void host_write(enum stream stream, const void *from, uint32_t count);
+void host_write(enum stream stream, const void *from, uint32_t count); /* ends the run where the output is closed or full */
 void put_text(enum stream stream, const char *text);
 void put_hex(enum stream stream, uint32_t value);
 void put_decimal(enum stream stream, uint32_t value);

@@ -50,11 +50,24 @@ uint32_t host_read(void *to, uint32_t count)
     return taken;
 }
 
+/* Whether all bytes were written: the host may take a part of them, and where it takes none the output is closed or full. */
+static bool write_all(enum stream stream, const void *from, uint32_t count)
+{
+    uint32_t left = count;
+    while (left) {
+        uint32_t parameters[] = {handles[stream], (uint32_t)from + (count - left), left};
+        uint32_t now = semihost(SYS_WRITE, parameters);
+        if (now >= left)
+            return false;
+        left = now;
+    }
+    return true;
+}
+
 void host_write(enum stream stream, const void *from, uint32_t count)
 {
-    uint32_t parameters[] = {handles[stream], (uint32_t)from, count};
-    if (count)
-        semihost(SYS_WRITE, parameters);
+    if (!write_all(stream, from, count))
+        refuse(STATUS_DEVICE, "sink fault");
 }
 
 void host_dump(const char *name, const void *from, uint32_t count)
@@ -64,9 +77,18 @@ void host_dump(const char *name, const void *from, uint32_t count)
     semihost(SYS_CLOSE, &handles[STREAM_FILE]);
 }
 
+/* Where a line to the error output can't be written, the status that is due stays. */
+static void put(enum stream stream, const void *from, uint32_t count)
+{
+    if (stream == STREAM_ERR)
+        (void)write_all(stream, from, count);
+    else
+        host_write(stream, from, count);
+}
+
 void put_text(enum stream stream, const char *text)
 {
-    host_write(stream, text, length_of(text));
+    put(stream, text, length_of(text));
 }
 
 void put_hex(enum stream stream, uint32_t value)
@@ -74,7 +96,7 @@ void put_hex(enum stream stream, uint32_t value)
     char digits[8];
     for (uint32_t k = 0; k < 8; k++)
         digits[k] = "0123456789abcdef"[value >> (28 - 4 * k) & 15];
-    host_write(stream, digits, 8);
+    put(stream, digits, 8);
 }
 
 void put_decimal(enum stream stream, uint32_t value)
@@ -85,7 +107,7 @@ void put_decimal(enum stream stream, uint32_t value)
         digits[--first] = (char)('0' + value % 10);
         value /= 10;
     } while (value);
-    host_write(stream, digits + first, 10 - first);
+    put(stream, digits + first, 10 - first);
 }
 
 void host_exit(uint32_t status)
