@@ -1,4 +1,6 @@
+mod Decimals
 mod HexDigits
 mod Lines
 mod Origins
+mod Pairs
 mod TextWords

@@ -9,16 +9,16 @@ ghost use Rattle.swi_image.specs.Sound.{IsImage};
 ghost use Rattle.swi_render.specs.ImageOf.{IsImageOf};
 ghost use Rattle.swi_trace.specs.Block.{ListsTextWords, block_lines, list_line, origin_note, note, role};
 
-use crate::text::{TEXT_ROOM, push_text_of};
+use crate::buffer::{LINE_ROOM, LineBuffer};
+use crate::text::{TEXT_ROOM, push_decimal, push_text_of};
 use swi_image::ImageView;
-use swi_line::{LINE_ROOM, Line};
 use swi_outside::{Failed, Sink};
 use swi_program::{Program, TextView};
 use swi_render::{Part, needs, part};
 
 /// Appends what a word is that stands so many words behind the first of the rendering of the text word
 /// `w` at the address `a`.
-fn push_role(line: &mut Line, w: u32, a: u32, behind: u32)
+fn push_role(line: &mut LineBuffer, w: u32, a: u32, behind: u32)
     requires { length line.old + TEXT_ROOM ≤ LINE_ROOM }
     ensures bytes { line.new ≡ line.old ++ role w a behind }
     ensures size { length line.new ≤ length line.old + TEXT_ROOM }
@@ -34,7 +34,7 @@ fn push_role(line: &mut Line, w: u32, a: u32, behind: u32)
 }
 
 /// The same behind its address; a word behind the rendering and the exit is of no text word.
-fn push_note(line: &mut Line, w: u32, a: u32, behind: u32)
+fn push_note(line: &mut LineBuffer, w: u32, a: u32, behind: u32)
     requires { length line.old + 9 + TEXT_ROOM ≤ LINE_ROOM }
     ensures bytes { line.new ≡ line.old ++ note w a behind }
     ensures size { length line.new ≤ length line.old + 9 + TEXT_ROOM }
@@ -50,7 +50,13 @@ fn push_note(line: &mut Line, w: u32, a: u32, behind: u32)
 
 /// Appends what the word at an offset of a block is: a part of the text word that begins last, at or
 /// before it.
-fn push_origin(line: &mut Line, text: &TextView<'_>, image: &ImageView<'_>, block: u32, offset: u32)
+fn push_origin(
+    line: &mut LineBuffer,
+    text: &TextView<'_>,
+    image: &ImageView<'_>,
+    block: u32,
+    offset: u32,
+)
     requires room { length line.old + 9 + TEXT_ROOM ≤ LINE_ROOM }
     requires sound { IsImage image.now }
     requires base { image.now.base ≡ text.now.base }
@@ -66,7 +72,7 @@ fn push_origin(line: &mut Line, text: &TextView<'_>, image: &ImageView<'_>, bloc
 }
 
 /// The line of a word of a block.
-fn list_line(text: &TextView<'_>, image: &ImageView<'_>, block: u32, offset: u32) -> Line
+fn list_line(text: &TextView<'_>, image: &ImageView<'_>, block: u32, offset: u32) -> LineBuffer
     requires sound { IsImage image.now }
     requires base { image.now.base ≡ text.now.base }
     requires covered { length image.now.offsets ≡ length text.now.words }
@@ -74,10 +80,10 @@ fn list_line(text: &TextView<'_>, image: &ImageView<'_>, block: u32, offset: u32
     requires offset { offset < length (block_at image.now block) }
     ensures { result ≡ list_line text.now image.now block offset }
 {
-    let mut line = Line::new();
-    line.push_decimal(u64::from(block));
+    let mut line = LineBuffer::new();
+    push_decimal(&mut line, block);
     line.push_text(" ");
-    line.push_decimal(u64::from(offset));
+    push_decimal(&mut line, offset);
     line.push_text(" ");
     line.push_hex_word(image.word(block, offset));
     line.push_text(" ");

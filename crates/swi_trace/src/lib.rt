@@ -3,10 +3,13 @@
 #![tactic(auto)]
 
 mod block;
+mod buffer;
+mod digits;
 mod history;
 mod mnemonics;
 mod text;
 
 pub use block::list_block;
+pub use buffer::LineBuffer;
 pub use history::History;
 pub use text::{text_of, trace_line};

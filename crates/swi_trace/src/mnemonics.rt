@@ -1,174 +1,199 @@
 //! The names of instructions and registers.
 #![tactic(auto)]
 
-ghost use Rattle.std.specs.Prelude.{◌≡◌, ◌≤◌, ℕ, length};
+ghost use Rattle.std.specs.Prelude.{◌≡◌, ◌+◌, ◌≤◌, ◌++◌, ℕ, length, take};
+ghost use Rattle.std.specs.Int.{w32, to_le_bytes};
 ghost use Rattle.swi_isa.specs.declared.instr.Instr.TheVariants.{Branch, Load, Store, Alu, Op, Atomic};
 ghost use Rattle.swi_trace.specs.Mnemonics.{name, register_name};
 
+use crate::buffer::{LINE_ROOM, LineBuffer};
 use swi_isa::{AtomicOp, BranchOp, ImmOp, Instr, LoadOp, Reg, RegOp, StoreOp};
 
 /// The most bytes of an instruction's name.
 pub const NAME_ROOM: usize = 9;
 
-/// The name of a register.
-pub fn register_name(register: Reg) -> &'static str
-    ensures name { result.now ≡ register_name register }
-    ensures short { length result.now ≤ 4 }
+/// The name of a register, filled up to four bytes, as a number of which the first byte is the lowest, and its length. So
+/// it is found in a table.
+#[inline(always)]
+fn register_text(register: Reg) -> (u32, usize)
+    ensures name { take result.1 (to_le_bytes w32 result.0) ≡ register_name register }
+    ensures short { result.1 ≤ 4 }
 {
+    macro_rules! name {
+        ($bytes:literal, $count:literal) => { (u32::from_le_bytes(*$bytes), $count) };
+    }
     match register.num() {
-        0 => "zero",
-        1 => "ra",
-        2 => "sp",
-        3 => "gp",
-        4 => "tp",
-        5 => "t0",
-        6 => "t1",
-        7 => "t2",
-        8 => "s0",
-        9 => "s1",
-        10 => "a0",
-        11 => "a1",
-        12 => "a2",
-        13 => "a3",
-        14 => "a4",
-        15 => "a5",
-        16 => "a6",
-        17 => "a7",
-        18 => "s2",
-        19 => "s3",
-        20 => "s4",
-        21 => "s5",
-        22 => "s6",
-        23 => "s7",
-        24 => "s8",
-        25 => "s9",
-        26 => "s10",
-        27 => "s11",
-        28 => "t3",
-        29 => "t4",
-        30 => "t5",
-        _ => "t6",
+        0 => name!(b"zero", 4),
+        1 => name!(b"ra  ", 2),
+        2 => name!(b"sp  ", 2),
+        3 => name!(b"gp  ", 2),
+        4 => name!(b"tp  ", 2),
+        5 => name!(b"t0  ", 2),
+        6 => name!(b"t1  ", 2),
+        7 => name!(b"t2  ", 2),
+        8 => name!(b"s0  ", 2),
+        9 => name!(b"s1  ", 2),
+        10 => name!(b"a0  ", 2),
+        11 => name!(b"a1  ", 2),
+        12 => name!(b"a2  ", 2),
+        13 => name!(b"a3  ", 2),
+        14 => name!(b"a4  ", 2),
+        15 => name!(b"a5  ", 2),
+        16 => name!(b"a6  ", 2),
+        17 => name!(b"a7  ", 2),
+        18 => name!(b"s2  ", 2),
+        19 => name!(b"s3  ", 2),
+        20 => name!(b"s4  ", 2),
+        21 => name!(b"s5  ", 2),
+        22 => name!(b"s6  ", 2),
+        23 => name!(b"s7  ", 2),
+        24 => name!(b"s8  ", 2),
+        25 => name!(b"s9  ", 2),
+        26 => name!(b"s10 ", 3),
+        27 => name!(b"s11 ", 3),
+        28 => name!(b"t3  ", 2),
+        29 => name!(b"t4  ", 2),
+        30 => name!(b"t5  ", 2),
+        _ => name!(b"t6  ", 2),
     }
 }
 
-fn branch_name(op: BranchOp) -> &'static str
-    ensures name { (rs1 rs2 off : ℕ) → result.now ≡ name (Branch op rs1 rs2 off) }
-    ensures short { length result.now ≤ NAME_ROOM }
+/// Appends the name of a register.
+#[inline(always)]
+pub(crate) fn push_register(line: &mut LineBuffer, register: Reg)
+    requires { length line.old + 4 ≤ LINE_ROOM }
+    ensures bytes { line.new ≡ line.old ++ register_name register }
+    ensures size { length line.new ≤ length line.old + 4 }
+{
+    let (bytes, count) = register_text(register);
+    line.push_front(bytes, count);
+}
+
+fn push_branch(line: &mut LineBuffer, op: BranchOp)
+    requires { length line.old + NAME_ROOM ≤ LINE_ROOM }
+    ensures bytes { (rs1 rs2 off : ℕ) → line.new ≡ line.old ++ name (Branch op rs1 rs2 off) }
+    ensures size { length line.new ≤ length line.old + NAME_ROOM }
 {
     match op {
-        BranchOp::Beq => "beq",
-        BranchOp::Bne => "bne",
-        BranchOp::Blt => "blt",
-        BranchOp::Bge => "bge",
-        BranchOp::Bltu => "bltu",
-        BranchOp::Bgeu => "bgeu",
+        BranchOp::Beq => line.push_text("beq"),
+        BranchOp::Bne => line.push_text("bne"),
+        BranchOp::Blt => line.push_text("blt"),
+        BranchOp::Bge => line.push_text("bge"),
+        BranchOp::Bltu => line.push_text("bltu"),
+        BranchOp::Bgeu => line.push_text("bgeu"),
     }
 }
 
-fn load_name(op: LoadOp) -> &'static str
-    ensures name { (rd rs1 imm : ℕ) → result.now ≡ name (Load op rd rs1 imm) }
-    ensures short { length result.now ≤ NAME_ROOM }
+fn push_load(line: &mut LineBuffer, op: LoadOp)
+    requires { length line.old + NAME_ROOM ≤ LINE_ROOM }
+    ensures bytes { (rd rs1 imm : ℕ) → line.new ≡ line.old ++ name (Load op rd rs1 imm) }
+    ensures size { length line.new ≤ length line.old + NAME_ROOM }
 {
     match op {
-        LoadOp::Lb => "lb",
-        LoadOp::Lh => "lh",
-        LoadOp::Lw => "lw",
-        LoadOp::Lbu => "lbu",
-        LoadOp::Lhu => "lhu",
+        LoadOp::Lb => line.push_text("lb"),
+        LoadOp::Lh => line.push_text("lh"),
+        LoadOp::Lw => line.push_text("lw"),
+        LoadOp::Lbu => line.push_text("lbu"),
+        LoadOp::Lhu => line.push_text("lhu"),
     }
 }
 
-fn store_name(op: StoreOp) -> &'static str
-    ensures name { (rs1 rs2 imm : ℕ) → result.now ≡ name (Store op rs1 rs2 imm) }
-    ensures short { length result.now ≤ NAME_ROOM }
+fn push_store(line: &mut LineBuffer, op: StoreOp)
+    requires { length line.old + NAME_ROOM ≤ LINE_ROOM }
+    ensures bytes { (rs1 rs2 imm : ℕ) → line.new ≡ line.old ++ name (Store op rs1 rs2 imm) }
+    ensures size { length line.new ≤ length line.old + NAME_ROOM }
 {
     match op {
-        StoreOp::Sb => "sb",
-        StoreOp::Sh => "sh",
-        StoreOp::Sw => "sw",
+        StoreOp::Sb => line.push_text("sb"),
+        StoreOp::Sh => line.push_text("sh"),
+        StoreOp::Sw => line.push_text("sw"),
     }
 }
 
-fn immediate_name(op: ImmOp) -> &'static str
-    ensures name { (rd rs1 imm : ℕ) → result.now ≡ name (Alu op rd rs1 imm) }
-    ensures short { length result.now ≤ NAME_ROOM }
+fn push_immediate_name(line: &mut LineBuffer, op: ImmOp)
+    requires { length line.old + NAME_ROOM ≤ LINE_ROOM }
+    ensures bytes { (rd rs1 imm : ℕ) → line.new ≡ line.old ++ name (Alu op rd rs1 imm) }
+    ensures size { length line.new ≤ length line.old + NAME_ROOM }
 {
     match op {
-        ImmOp::Addi => "addi",
-        ImmOp::Slti => "slti",
-        ImmOp::Sltiu => "sltiu",
-        ImmOp::Xori => "xori",
-        ImmOp::Ori => "ori",
-        ImmOp::Andi => "andi",
-        ImmOp::Slli => "slli",
-        ImmOp::Srli => "srli",
-        ImmOp::Srai => "srai",
+        ImmOp::Addi => line.push_text("addi"),
+        ImmOp::Slti => line.push_text("slti"),
+        ImmOp::Sltiu => line.push_text("sltiu"),
+        ImmOp::Xori => line.push_text("xori"),
+        ImmOp::Ori => line.push_text("ori"),
+        ImmOp::Andi => line.push_text("andi"),
+        ImmOp::Slli => line.push_text("slli"),
+        ImmOp::Srli => line.push_text("srli"),
+        ImmOp::Srai => line.push_text("srai"),
     }
 }
 
-fn operation_name(op: RegOp) -> &'static str
-    ensures name { (rd rs1 rs2 : ℕ) → result.now ≡ name (Op op rd rs1 rs2) }
-    ensures short { length result.now ≤ NAME_ROOM }
+fn push_operation(line: &mut LineBuffer, op: RegOp)
+    requires { length line.old + NAME_ROOM ≤ LINE_ROOM }
+    ensures bytes { (rd rs1 rs2 : ℕ) → line.new ≡ line.old ++ name (Op op rd rs1 rs2) }
+    ensures size { length line.new ≤ length line.old + NAME_ROOM }
 {
     match op {
-        RegOp::Add => "add",
-        RegOp::Sub => "sub",
-        RegOp::Sll => "sll",
-        RegOp::Slt => "slt",
-        RegOp::Sltu => "sltu",
-        RegOp::Xor => "xor",
-        RegOp::Srl => "srl",
-        RegOp::Sra => "sra",
-        RegOp::Or => "or",
-        RegOp::And => "and",
-        RegOp::Mul => "mul",
-        RegOp::Mulh => "mulh",
-        RegOp::Mulhsu => "mulhsu",
-        RegOp::Mulhu => "mulhu",
-        RegOp::Div => "div",
-        RegOp::Divu => "divu",
-        RegOp::Rem => "rem",
-        RegOp::Remu => "remu",
+        RegOp::Add => line.push_text("add"),
+        RegOp::Sub => line.push_text("sub"),
+        RegOp::Sll => line.push_text("sll"),
+        RegOp::Slt => line.push_text("slt"),
+        RegOp::Sltu => line.push_text("sltu"),
+        RegOp::Xor => line.push_text("xor"),
+        RegOp::Srl => line.push_text("srl"),
+        RegOp::Sra => line.push_text("sra"),
+        RegOp::Or => line.push_text("or"),
+        RegOp::And => line.push_text("and"),
+        RegOp::Mul => line.push_text("mul"),
+        RegOp::Mulh => line.push_text("mulh"),
+        RegOp::Mulhsu => line.push_text("mulhsu"),
+        RegOp::Mulhu => line.push_text("mulhu"),
+        RegOp::Div => line.push_text("div"),
+        RegOp::Divu => line.push_text("divu"),
+        RegOp::Rem => line.push_text("rem"),
+        RegOp::Remu => line.push_text("remu"),
     }
 }
 
-fn atomic_name(op: AtomicOp) -> &'static str
-    ensures name { (rd rs1 rs2 : ℕ) → result.now ≡ name (Atomic op rd rs1 rs2) }
-    ensures short { length result.now ≤ NAME_ROOM }
+fn push_atomic_name(line: &mut LineBuffer, op: AtomicOp)
+    requires { length line.old + NAME_ROOM ≤ LINE_ROOM }
+    ensures bytes { (rd rs1 rs2 : ℕ) → line.new ≡ line.old ++ name (Atomic op rd rs1 rs2) }
+    ensures size { length line.new ≤ length line.old + NAME_ROOM }
 {
     match op {
-        AtomicOp::LrW => "lr.w",
-        AtomicOp::ScW => "sc.w",
-        AtomicOp::SwapW => "amoswap.w",
-        AtomicOp::AddW => "amoadd.w",
-        AtomicOp::XorW => "amoxor.w",
-        AtomicOp::AndW => "amoand.w",
-        AtomicOp::OrW => "amoor.w",
-        AtomicOp::MinW => "amomin.w",
-        AtomicOp::MaxW => "amomax.w",
-        AtomicOp::MinuW => "amominu.w",
-        AtomicOp::MaxuW => "amomaxu.w",
+        AtomicOp::LrW => line.push_text("lr.w"),
+        AtomicOp::ScW => line.push_text("sc.w"),
+        AtomicOp::SwapW => line.push_text("amoswap.w"),
+        AtomicOp::AddW => line.push_text("amoadd.w"),
+        AtomicOp::XorW => line.push_text("amoxor.w"),
+        AtomicOp::AndW => line.push_text("amoand.w"),
+        AtomicOp::OrW => line.push_text("amoor.w"),
+        AtomicOp::MinW => line.push_text("amomin.w"),
+        AtomicOp::MaxW => line.push_text("amomax.w"),
+        AtomicOp::MinuW => line.push_text("amominu.w"),
+        AtomicOp::MaxuW => line.push_text("amomaxu.w"),
     }
 }
 
 /// The name of an instruction.
-pub fn name(instr: &Instr) -> &'static str
-    ensures name { result.now ≡ name instr.now }
-    ensures short { length result.now ≤ NAME_ROOM }
+pub(crate) fn push_name(line: &mut LineBuffer, instr: &Instr)
+    requires { length line.old + NAME_ROOM ≤ LINE_ROOM }
+    ensures bytes { line.new ≡ line.old ++ name instr.now }
+    ensures size { length line.new ≤ length line.old + NAME_ROOM }
 {
     match *instr {
-        Instr::Lui { .. } => "lui",
-        Instr::Auipc { .. } => "auipc",
-        Instr::Jal { .. } => "jal",
-        Instr::Jalr { .. } => "jalr",
-        Instr::Branch { op, .. } => branch_name(op),
-        Instr::Load { op, .. } => load_name(op),
-        Instr::Store { op, .. } => store_name(op),
-        Instr::Alu { op, .. } => immediate_name(op),
-        Instr::Op { op, .. } => operation_name(op),
-        Instr::Atomic { op, .. } => atomic_name(op),
-        Instr::Fence => "fence",
-        Instr::Ecall => "ecall",
-        Instr::Ebreak => "ebreak",
+        Instr::Lui { .. } => line.push_text("lui"),
+        Instr::Auipc { .. } => line.push_text("auipc"),
+        Instr::Jal { .. } => line.push_text("jal"),
+        Instr::Jalr { .. } => line.push_text("jalr"),
+        Instr::Branch { op, .. } => push_branch(line, op),
+        Instr::Load { op, .. } => push_load(line, op),
+        Instr::Store { op, .. } => push_store(line, op),
+        Instr::Alu { op, .. } => push_immediate_name(line, op),
+        Instr::Op { op, .. } => push_operation(line, op),
+        Instr::Atomic { op, .. } => push_atomic_name(line, op),
+        Instr::Fence => line.push_text("fence"),
+        Instr::Ecall => line.push_text("ecall"),
+        Instr::Ebreak => line.push_text("ebreak"),
     }
 }

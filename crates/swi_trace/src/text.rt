@@ -1,15 +1,16 @@
 //! An instruction as text, and the line of a step.
 #![tactic(auto)]
 
-ghost use Rattle.std.specs.Prelude.{◌≡◌, ℕ, ◌+◌, ◌<◌, ◌≤◌, ◌++◌, [], ◌∷◌, codes, false, length};
-ghost use Rattle.std.specs.Fmt.{digit_glyph, digits};
+ghost use Rattle.std.specs.Prelude.{◌≡◌, ℕ, ◌+◌, ◌≤◌, ◌++◌, codes, decimal, false, length};
+ghost use Rattle.std.specs.Fmt.{digits};
 ghost use Rattle.swi_isa.specs.declared.instr.Instr.TheVariants.{Atomic};
 ghost use Rattle.swi_trace.specs.Mnemonics.{name, register_name};
 ghost use Rattle.swi_trace.specs.Text.{number, upper, target, held_in, operands, listed, text_of_word, trace_line_of};
 
-use crate::mnemonics::{name, register_name};
+use crate::buffer::{LINE_ROOM, LineBuffer};
+use crate::digits::hex_digit;
+use crate::mnemonics::{push_name, push_register};
 use swi_isa::{AtomicOp, Instr, Reg, decode};
-use swi_line::{LINE_ROOM, Line};
 
 /// The most bytes of an instruction as text.
 pub const TEXT_ROOM: usize = 48;
@@ -17,33 +18,8 @@ pub const TEXT_ROOM: usize = 48;
 /// The most bytes of its operands, with what stands before each.
 const OPERANDS_ROOM: usize = 39;
 
-/// A digit from 0 to 15 in hexadecimal.
-fn hex_digit(digit: u32) -> &'static str
-    requires { digit < 16 }
-    ensures { result.now ≡ digit_glyph false digit ∷ [] }
-{
-    match digit {
-        0 => "0",
-        1 => "1",
-        2 => "2",
-        3 => "3",
-        4 => "4",
-        5 => "5",
-        6 => "6",
-        7 => "7",
-        8 => "8",
-        9 => "9",
-        10 => "a",
-        11 => "b",
-        12 => "c",
-        13 => "d",
-        14 => "e",
-        _ => "f",
-    }
-}
-
 /// Appends a number in hexadecimal, without leading zeros.
-fn push_hex(line: &mut Line, number: u32)
+fn push_hex(line: &mut LineBuffer, number: u32)
     requires { length line.old + 8 ≤ LINE_ROOM }
     ensures bytes { line.new ≡ line.old ++ digits 16 false number }
     ensures size { length line.new ≤ length line.old + 8 }
@@ -51,52 +27,67 @@ fn push_hex(line: &mut Line, number: u32)
     if number >= 16 {
         push_hex(line, number / 16);
     }
-    line.push_text(hex_digit(number % 16));
+    line.push_byte(hex_digit((number % 16) as u8));
+}
+
+/// Appends a number in decimal digits.
+pub(crate) fn push_decimal(line: &mut LineBuffer, number: u32)
+    requires { length line.old + 10 ≤ LINE_ROOM }
+    ensures bytes { line.new ≡ line.old ++ decimal number }
+    ensures size { length line.new ≤ length line.old + 10 }
+{
+    if number >= 10 {
+        push_decimal(line, number / 10);
+    }
+    line.push_byte(b'0' + (number % 10) as u8);
 }
 
 /// Appends 32 bits in two's complement as a decimal number, with a minus sign below 0.
-fn push_number(line: &mut Line, imm: u32)
+fn push_number(line: &mut LineBuffer, imm: u32)
     requires { length line.old + 11 ≤ LINE_ROOM }
     ensures bytes { line.new ≡ line.old ++ number imm }
     ensures size { length line.new ≤ length line.old + 11 }
 {
-    let mut buffer = itoa::Buffer::new();
-    line.push_text(buffer.format(imm.cast_signed()));
+    let number = imm.cast_signed();
+    if number < 0 {
+        line.push_text("-");
+    }
+    push_decimal(line, number.unsigned_abs());
 }
 
 /// Appends the address that a register holds.
-fn push_held(line: &mut Line, base: Reg)
+fn push_held(line: &mut LineBuffer, base: Reg)
     requires { length line.old + 6 ≤ LINE_ROOM }
     ensures bytes { line.new ≡ line.old ++ held_in base }
     ensures size { length line.new ≤ length line.old + 6 }
 {
     line.push_text("(");
-    line.push_text(register_name(base));
+    push_register(line, base);
     line.push_text(")");
 }
 
 /// Appends the first operand, a register.
-fn push_first(line: &mut Line, register: Reg)
+fn push_first(line: &mut LineBuffer, register: Reg)
     requires { length line.old + 5 ≤ LINE_ROOM }
     ensures bytes { line.new ≡ line.old ++ (codes " " ++ register_name register) }
     ensures size { length line.new ≤ length line.old + 5 }
 {
     line.push_text(" ");
-    line.push_text(register_name(register));
+    push_register(line, register);
 }
 
 /// Appends a further operand, a register.
-fn push_next(line: &mut Line, register: Reg)
+fn push_next(line: &mut LineBuffer, register: Reg)
     requires { length line.old + 6 ≤ LINE_ROOM }
     ensures bytes { line.new ≡ line.old ++ (codes ", " ++ register_name register) }
     ensures size { length line.new ≤ length line.old + 6 }
 {
     line.push_text(", ");
-    line.push_text(register_name(register));
+    push_register(line, register);
 }
 
 /// Appends a further operand, a number.
-fn push_immediate(line: &mut Line, imm: u32)
+fn push_immediate(line: &mut LineBuffer, imm: u32)
     requires { length line.old + 13 ≤ LINE_ROOM }
     ensures bytes { line.new ≡ line.old ++ (codes ", " ++ number imm) }
     ensures size { length line.new ≤ length line.old + 13 }
@@ -106,7 +97,7 @@ fn push_immediate(line: &mut Line, imm: u32)
 }
 
 /// Appends a further operand, an upper immediate.
-fn push_upper(line: &mut Line, imm: u32)
+fn push_upper(line: &mut LineBuffer, imm: u32)
     requires { length line.old + 12 ≤ LINE_ROOM }
     ensures bytes { line.new ≡ line.old ++ (codes ", " ++ upper imm) }
     ensures size { length line.new ≤ length line.old + 12 }
@@ -116,7 +107,7 @@ fn push_upper(line: &mut Line, imm: u32)
 }
 
 /// Appends a further operand, the address at an offset from the instruction's.
-fn push_target(line: &mut Line, a: u32, off: u32)
+fn push_target(line: &mut LineBuffer, a: u32, off: u32)
     requires { length line.old + 10 ≤ LINE_ROOM }
     ensures bytes { line.new ≡ line.old ++ (codes ", " ++ target a off) }
     ensures size { length line.new ≤ length line.old + 10 }
@@ -126,7 +117,7 @@ fn push_target(line: &mut Line, a: u32, off: u32)
 }
 
 /// Appends a further operand, the address at an offset from the one that a register holds.
-fn push_place(line: &mut Line, imm: u32, base: Reg)
+fn push_place(line: &mut LineBuffer, imm: u32, base: Reg)
     requires { length line.old + 19 ≤ LINE_ROOM }
     ensures bytes { line.new ≡ line.old ++ (codes ", " ++ (number imm ++ held_in base)) }
     ensures size { length line.new ≤ length line.old + 19 }
@@ -136,7 +127,7 @@ fn push_place(line: &mut Line, imm: u32, base: Reg)
 }
 
 /// Appends the operands of an instruction at the address `a`, with what stands before each.
-fn push_operands(line: &mut Line, instr: &Instr, a: u32)
+fn push_operands(line: &mut LineBuffer, instr: &Instr, a: u32)
     requires { length line.old + OPERANDS_ROOM ≤ LINE_ROOM }
     ensures bytes { line.new ≡ line.old ++ listed (operands instr.now a) }
     ensures size { length line.new ≤ length line.old + OPERANDS_ROOM }
@@ -179,7 +170,7 @@ fn push_operands(line: &mut Line, instr: &Instr, a: u32)
 }
 
 /// Appends the operands of an atomic operation: LR.W has no second register.
-fn push_atomic(line: &mut Line, op: AtomicOp, rd: Reg, rs1: Reg, rs2: Reg)
+fn push_atomic(line: &mut LineBuffer, op: AtomicOp, rd: Reg, rs1: Reg, rs2: Reg)
     requires { length line.old + OPERANDS_ROOM ≤ LINE_ROOM }
     ensures bytes { (a : ℕ) → line.new ≡ line.old ++ listed (operands (Atomic op rd rs1 rs2) a) }
     ensures size { length line.new ≤ length line.old + OPERANDS_ROOM }
@@ -194,18 +185,18 @@ fn push_atomic(line: &mut Line, op: AtomicOp, rd: Reg, rs1: Reg, rs2: Reg)
 }
 
 /// Appends the text of an instruction at the address `a`.
-fn push_instr(line: &mut Line, instr: &Instr, a: u32)
+fn push_instr(line: &mut LineBuffer, instr: &Instr, a: u32)
     requires { length line.old + TEXT_ROOM ≤ LINE_ROOM }
     ensures bytes { line.new ≡ line.old ++ (name instr.now ++ listed (operands instr.now a)) }
     ensures size { length line.new ≤ length line.old + TEXT_ROOM }
 {
-    line.push_text(name(instr));
+    push_name(line, instr);
     push_operands(line, instr, a);
 }
 
 /// Appends the text of the word `w` at the address `a`, at most 48 bytes, for which there must be room.
 #[tactic(auto, unfolding(crate::specs::Text::text_of_word))]
-pub fn push_text_of(line: &mut Line, w: u32, a: u32)
+pub fn push_text_of(line: &mut LineBuffer, w: u32, a: u32)
     requires { length line.old + TEXT_ROOM ≤ LINE_ROOM }
     ensures bytes { line.new ≡ line.old ++ text_of_word w a }
     ensures size { length line.new ≤ length line.old + TEXT_ROOM }
@@ -231,11 +222,11 @@ pub fn push_text_of(line: &mut Line, w: u32, a: u32)
 ///
 /// Source: the names of instructions and registers, RISC-V unprivileged specification ("RV32/64G Instruction Set
 /// Listings", "RISC-V Assembly Programmer's Handbook"); the forms are this project's.
-pub fn text_of(w: u32, a: u32) -> Line
+pub fn text_of(w: u32, a: u32) -> LineBuffer
     ensures bytes { result ≡ text_of_word w a }
     ensures short { length result ≤ TEXT_ROOM }
 {
-    let mut line = Line::new();
+    let mut line = LineBuffer::new();
     push_text_of(&mut line, w, a);
     line
 }
@@ -247,10 +238,13 @@ pub fn text_of(w: u32, a: u32) -> Line
 /// 00010008 00000073 ecall
 /// 00020000 -------- outside
 /// ```
-pub fn trace_line(a: u32, w: Option<u32>) -> Line
+///
+/// It is inlined where it is called, since a line that is given back by a call is copied twice.
+#[inline(always)]
+pub fn trace_line(a: u32, w: Option<u32>) -> LineBuffer
     ensures { result ≡ trace_line_of a w }
 {
-    let mut line = Line::new();
+    let mut line = LineBuffer::new();
     line.push_hex_word(a);
     match w {
         Some(w) => {
