@@ -1,5 +1,5 @@
 -- A block leaves its slot: what the chip's lists and words are then stands for what the model says.
-use Rattle.std.proofs.Common.{◌≡◌, ◌⊎◌, ℕ, zero, suc, ◌+◌, ◌-◌, ◌*◌, ◌/◌, ◌<◌, ◌≤◌, Bool, true, false, nat_lt, if◌then◌else◌, List, [], ◌∷◌, map, length, slice_index, slice_set, arith, refl, sym, ◌∙◌, ap, subst, inl, inr, add-one}
+use Rattle.std.proofs.Common.{◌≡◌, ◌⊎◌, ℕ, ◌+◌, ◌-◌, ◌*◌, ◌/◌, ◌<◌, ◌≤◌, Bool, true, false, nat_lt, if◌then◌else◌, List, [], ◌∷◌, map, length, slice_index, slice_set, arith, refl, sym, ◌∙◌, ap, subst, inl, inr}
 use Rattle.std.specs.List.{range_with_len}
 use Rattle.std.proofs.lemmas.Bool.{cases_eq, cases_lt, lt-ltb, le-ltb}
 use Rattle.std.proofs.lemmas.List.{length-set, get_or-set_same, get_or-set_other, ext_get_or, get_or_past}
@@ -7,19 +7,18 @@ use Rattle.std.proofs.lemmas.List.FromFn.{length-map-range_with_len, get_or-map-
 use Rattle.std.proofs.lemmas.Nat.{div-mul-add}
 use Rattle.swi_rom.specs.Record.{ebreak}
 use Rattle.swi_rom.specs.Coherent.{IsExit}
-use Rattle.swi_links.specs.Chains.{Has, Distinct, without}
-use Rattle.swi_links.specs.Laws.{has_without, without_has}
-use Rattle.swi_links.proofs.Chain.{distinct_without}
+use Rattle.swi_links.specs.Chains.{Has}
 use Rattle.swi_slots.specs.Slots.{Slots}
 use Rattle.swi_slots.specs.Keys.{Images, owner_of, number_of, words_in}
 use Rattle.swi_slots.specs.Steps.{is_dropped, leads_in, leading_in}
-use Rattle.swi_slots.specs.Tells.{own_tells, leads_tells, none_tells, leading_none, leading_more}
+use Rattle.swi_slots.specs.Tells.{own_tells, leads_tells, none_tells}
 use Rattle.swi_chip.specs.Lists.{StandIn, Run, nexts, befores, list_at}
 use Rattle.swi_chip.specs.Undone.{IsApart, IsUndone, CanRestore, restored}
 use Rattle.swi_chip.specs.Owned.{AreCounted, AreTied, Dropped, is_jump, lands_in}
 use Rattle.swi_chip.specs.Held.{InBlock}
 use Rattle.swi_chip.specs.Evicted.{Known, Evicted}
-use Rattle.swi_chip.proofs.Owning.{set_has, has_set_other, without_shorter}
+use Rattle.swi_chip.proofs.Owning.{set_has, has_set_other}
+use Rattle.swi_chip.proofs.Counting.{counted_cells, leading_told}
 use Rattle.swi_chip.proofs.Facts.{short, LinkAt, link_at, cell_link, never_two, lists_apart, lists_tied, can_restore, restores_ram}
 
 -- ---- the lists that stand there are these alone
@@ -44,40 +43,6 @@ has_dec (y ∷ ys) x = elim (cases_eq y x) [
   | inl e ↦ inl (inl e)
   | inr ne ↦ elim (has_dec ys x) [ inl h ↦ inl (inr h) | inr none ↦ inr (λ h. elim h [ inl e ↦ ne e | inr r ↦ none r ]) ]
 ]
-
--- ---- a list with just the words that lead into a slot is as long as there are such words
-
-abbrev AreLeads : ℕ → ℕ → ℕ → List ℕ → List ℕ → Type 0
-AreLeads size slot n targets L = (x : ℕ) → Has L x → (0 < x) × (x - 1 < n) × (leads_in size slot targets (x - 1) ≡ true)
-
-abbrev AreAll : ℕ → ℕ → ℕ → List ℕ → List ℕ → Type 0
-AreAll size slot n targets L = (i : ℕ) → i < n → leads_in size slot targets i ≡ true → Has L (i + 1)
-
-counts_step : (t : Bool) (size slot n : ℕ) (targets L : List ℕ) → leads_in size slot targets n ≡ t → Distinct L → AreLeads size slot (suc n) targets L → AreAll size slot (suc n) targets L →
-    ((M : List ℕ) → Distinct M → AreLeads size slot n targets M → AreAll size slot n targets M → length M ≡ leading_in size slot targets n) → length L ≡ leading_in size slot targets (n + 1)
-counts_step true size slot n targets L e d are all ih =
-    let here : Has L (n + 1) = all n (omega arith) e in
-    let rest : length (without (n + 1) L) ≡ leading_in size slot targets n = ih (without (n + 1) L) (distinct_without (n + 1) L d)
-    (λ x h. (let w = has_without (n + 1) x L h in let a = are x w.0 in (a.0, (let p = a.0 in let q = a.1 in let ne = w.1 in omega (arith, p, q, ne)), a.2)))
-    (λ i lt g. without_has (n + 1) (i + 1) L (all i (omega arith) g) (λ z. omega (arith, z, lt))) in
-    let more : leading_in size slot targets (n + 1) ≡ leading_in size slot targets n + 1 = leading_more size slot n targets true e in
-    let one : length (without (n + 1) L) + 1 ≡ length L = without_shorter (n + 1) L d here in
-    omega (arith, rest, more, one)
-counts_step false size slot n targets L e d are all ih =
-    ih L d (λ x h. (let a = are x h in (a.0, not_last x a.0 a.1 a.2, a.2))) (λ i lt g. all i (omega arith) g) ∙ sym (leading_more size slot n targets false e)
-  where
-    not_last : (x : ℕ) → 0 < x → x - 1 < suc n → leads_in size slot targets (x - 1) ≡ true → x - 1 < n
-    not_last x p q t = elim (cases_eq (x - 1) n) [
-      | inl z ↦ absurd (let two : true ≡ false = sym t ∙ (ap (λ (k : ℕ). leads_in size slot targets k) z ∙ e) in cc)
-      | inr ne ↦ omega (arith, q, ne)
-    ]
-
-counts : (size slot n : ℕ) (targets L : List ℕ) → Distinct L → AreLeads size slot n targets L → AreAll size slot n targets L → length L ≡ leading_in size slot targets n
-counts size slot zero targets [] d are all = sym (leading_none size slot targets)
-counts size slot zero targets (x ∷ xs) d are all = absurd (let e = (are x (inl refl)).1 in omega (arith, e))
-counts size slot (suc n) targets L d are all =
-    let step : length L ≡ leading_in size slot targets (n + 1) = counts_step (leads_in size slot targets n) size slot n targets L refl d are all (λ M. counts size slot n targets M) in
-    step ∙ ap (leading_in size slot targets) (add-one n)
 
 -- ---- what is known of the lists of a service
 
@@ -244,9 +209,10 @@ module _ {s : Slots} {vs : Images} {ram cache heads links blocks ends words : Li
 
     -- the links into the slot that are undone are those from other slots
     number_is : slice_index links1 slot ≡ leading_in s.size slot s.targets N
-    number_is = sym now_count ∙ counts s.size slot N s.targets (list_at d.now slot) (d.stand.distinct slot (let a = now_inside in let b = d.stand.long in omega (arith, a, b)))
+    number_is = sym now_count ∙ counted_cells (leads_in s.size slot s.targets) N (list_at d.now slot) (d.stand.distinct slot (let a = now_inside in let b = d.stand.long in omega (arith, a, b)))
         (λ x h. (let w = (d.dropped.were slot x h).0 in let a = k.holds.linked slot x w in (a.1, a.2, (leads_tells s.size slot (x - 1) s.targets (not_own slot x h) a.3).1)))
         (λ i lt g. into i lt g)
+        ∙ sym (leading_told s.size slot s.targets N)
       where
         into : (i : ℕ) → i < s.slots * s.size → leads_in s.size slot s.targets i ≡ true → Has (list_at d.now slot) (i + 1)
         into i lt g = elim (cases_eq (i / s.size) slot) [

@@ -14,3 +14,6 @@ pub mod Dividing
 pub mod Starting
 pub mod Emptying
 pub mod Stands
+pub mod Counting
+pub mod Leading
+pub mod Bounding

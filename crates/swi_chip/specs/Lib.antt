@@ -13,3 +13,4 @@ pub mod Starting
 pub mod Standing
 pub mod Leaving
 pub mod Replacing
+pub mod Bounded
