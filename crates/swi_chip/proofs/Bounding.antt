@@ -185,6 +185,11 @@ pub direct_is : (by : Setting) (r : Record) (v : ImageData) (b o target : ℕ) (
 unfolding served_by went
 direct_is by r v b o target p free is = rw (free, is) refl
 
+-- one more link is made where the exit's block stands there and a JAL reaches
+pub linked_counts : (r : Record) (b o : ℕ) (p : ℕ × ℕ) → (is_placed r b && reaches (first_of r b + o) (first_of r p.0 + p.1)) ≡ true → (linked with_link r b o p).counts.links ≡ r.counts.links + 1
+unfolding linked
+linked_counts r b o p can = rw can refl
+
 not_refused : (most : ℕ) (by : Setting) (r : Record) (v : ImageData) (b o target : ℕ) (p : ℕ × ℕ) → place_of v target ≡ Some p → is_refused most by r v (direct b o target) ≡ false →
     (fifo by r v (direct b o target)).counts.links ≡ r.counts.links + 1 → leading_into (fifo by r v (indirect target)) p.0 < most
 not_refused most by r v b o target p is free more = elim (cases_lt (leading_into (fifo by r v (indirect target)) p.0) most) [

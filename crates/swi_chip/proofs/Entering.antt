@@ -8,10 +8,9 @@ use Rattle.swi_image.specs.Laws.{block_inside, place_inside}
 use Rattle.swi_image.specs.Place.{distance, length_at, place_of}
 use Rattle.swi_image.specs.Sound.{IsImage}
 use Rattle.swi_rom.specs.Blocks.{block_short}
-use Rattle.swi_rom.specs.Policy.{more_service, served_outside, with_link}
+use Rattle.swi_rom.specs.Policy.{more_service}
 use Rattle.swi_rom.specs.Record.{indirect}
 use Rattle.swi_slots.specs.Arrived.{Arrived}
-use Rattle.swi_slots.specs.Fifo.{arrived}
 use Rattle.swi_slots.specs.Keys.{Images, key_of}
 use Rattle.swi_slots.specs.Slots.{Slots, kept_by, setting_of}
 use Rattle.swi_slots.specs.Sound.{SlotsServe}
@@ -20,7 +19,8 @@ use Rattle.swi_slots.proofs.Arriving.{counted_sound, hit_arrived}
 use Rattle.swi_slots.proofs.Crossing.{entered}
 use Rattle.swi_chip.specs.declared.chip.Chip.{Chip}
 use Rattle.swi_chip.specs.declared.chip.ChipCounts.{ChipCounts}
-use Rattle.swi_chip.specs.Service.{HasTables, StandsFor, ToFill, HasArrived, CountedService, ChipServed, AnswersAt, address_of, no_text}
+use Rattle.swi_chip.specs.Service.{HasTables, StandsFor, ToFill, HasArrived, CountedService, CountsRefused, ChipServed, AnswersAt, address_of, no_text}
+use Rattle.swi_chip.proofs.Bounding.{entry_not, few_fifo, few_outside}
 use Rattle.swi_chip.proofs.Filling.{few_blocks, key_is, small_mark}
 use Rattle.swi_chip.proofs.Filled.{any_ram, any_words}
 
@@ -208,20 +208,25 @@ index_few h target offset is =
     let b = h.stands.holds.stand.few in
     omega (arith, i, m, a, b)
 
-pub entered_none : {s : Slots} {vs : Images} {ram : List ℕ} {lists : List (List ℕ)} {c : Chip} (k : StandsFor s vs ram lists c) (target : ℕ) → place_of (vs s.turn) target ≡ None → ChipServed s vs (indirect target) no_text c
+-- nothing was refused
+pub refuses_none : {q : Bool} {old new : Chip} → q ≡ false → CountsRefused false old new → CountsRefused q old new
+refuses_none {q} {old} {new} e stays = subst (λ (x : Bool). CountsRefused x old new) (sym e) stays
+
+pub entered_none : {s : Slots} {vs : Images} {ram : List ℕ} {lists : List (List ℕ)} {c : Chip} (k : StandsFor s vs ram lists c) (target : ℕ) → place_of (vs s.turn) target ≡ None → ChipServed s vs (indirect target) no_text c c
 entered_none {s} {vs} {ram} {lists} {c} k target none = record {
   next = s;
   words = ram;
   lists = lists;
   stands = k;
   setting = refl;
-  moves = sym (served_outside arrived with_link (setting_of s) (kept_by s) (vs s.turn) (indirect target) none);
+  moves = sym (few_outside c.most (setting_of s) (kept_by s) (vs s.turn) (indirect target) none);
+  bound = refuses_none (entry_not c.most (setting_of s) (kept_by s) (vs s.turn) target) (record { most = refl; refused = refl });
   answers = subst (λ (p : Option (ℕ × ℕ)). AnswersAt p s s (vs s.turn) c target no_text) (sym none) (refl, refl);
 }
 
-pub entered_some : {s : Slots} {vs : Images} {ram : List ℕ} {c' : Chip} (target block offset mark : ℕ) → place_of (vs s.turn) target ≡ Some (block, offset) → HasArrived s vs ram block mark c' →
-    (answer : ℕ) → answer ≡ (c'.cache_at + 4 * (mark - 1 + offset)) % 2 ^ 32 → ChipServed s vs (indirect target) answer c'
-entered_some {s} {vs} {ram} {c'} target block offset mark is h answer answer_is =
+pub entered_some : {s : Slots} {vs : Images} {ram : List ℕ} {c c' : Chip} → CountsRefused false c c' → (target block offset mark : ℕ) → place_of (vs s.turn) target ≡ Some (block, offset) → HasArrived s vs ram block mark c' →
+    (answer : ℕ) → answer ≡ (c'.cache_at + 4 * (mark - 1 + offset)) % 2 ^ 32 → ChipServed s vs (indirect target) answer c c'
+entered_some {s} {vs} {ram} {c} {c'} stays target block offset mark is h answer answer_is =
     let a = h.arrived (any_ram ram) (any_words ram) in
     let arr : Arrived vs s block h.slot h.next (any_ram ram) a.0 = a.2 in
     let e = entered vs s h.next block offset h.slot target (any_ram ram) a.0 arr is in
@@ -231,7 +236,8 @@ entered_some {s} {vs} {ram} {c'} target block offset mark is h answer answer_is 
       lists = h.lists;
       stands = h.stands;
       setting = setting_same s h.next arr.slots_stay arr.size_stays arr.programs_stay;
-      moves = e.moves;
+      moves = e.moves ∙ sym (few_fifo c.most (setting_of s) (kept_by s) (vs s.turn) (indirect target) (entry_not c.most (setting_of s) (kept_by s) (vs s.turn) target));
+      bound = refuses_none (entry_not c.most (setting_of s) (kept_by s) (vs s.turn) target) stays;
       answers = subst (λ (p : Option (ℕ × ℕ)). AnswersAt p s h.next (vs s.turn) c' target answer) (sym is)
           (h.slot * s.size + offset, answer_is ∙ ap (λ (n : ℕ). (c'.cache_at + 4 * n) % 2 ^ 32) (index_is h.mark_is) ∙ address_is h.stands (h.slot * s.size + offset) (index_inside h target offset is), e.answer);
     }

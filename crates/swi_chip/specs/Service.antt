@@ -8,13 +8,13 @@ use Rattle.swi_rom.specs.Coherent.{ExitAt, TargetAt}
 use Rattle.swi_rom.specs.Record.{IsJump, Placed, Transfer, direct, ebreak, indirect, target_of}
 use Rattle.swi_rom.specs.declared.rom.Counts.{Counts}
 use Rattle.swi_slots.specs.Arrived.{Arrived}
-use Rattle.swi_slots.specs.Fifo.{fifo}
 use Rattle.swi_slots.specs.Keys.{Images, key_of}
 use Rattle.swi_slots.specs.Slots.{Slots, kept_by, setting_of}
 use Rattle.swi_slots.specs.Sound.{SlotsServe}
 use Rattle.swi_slots.specs.Steps.{IsAbsent, can_link, counted_slots}
 use Rattle.swi_chip.specs.declared.chip.Chip.{Chip}
 use Rattle.swi_chip.specs.declared.chip.ChipCounts.{ChipCounts}
+use Rattle.swi_chip.specs.Bounded.{fifo_few, is_refused}
 use Rattle.swi_chip.specs.Held.{Holds, RowsHold}
 use Rattle.swi_chip.specs.Sizes.{IsInverse}
 use Rattle.swi_chip.specs.Undone.{begin_in}
@@ -145,10 +145,17 @@ pub record LinkedStands (t : Slots) (vs : Images) (words : List ℕ) (at slot to
   pub lists : List (List ℕ)
   pub stands : SlotsServe (linked_to t at slot) vs (slice_set words at word) → StandsFor (linked_to t at slot) vs (slice_set words at word) lists c
 
--- the exit has become a link, or its block is gone and nothing has changed
-abbrev pub LinkedExit : Slots → Images → List ℕ → List (List ℕ) → ℕ → ℕ → ℕ → ℕ → Chip → Type 0
-LinkedExit t vs words lists at home slot to c =
-    ((can_link t at home to ≡ false) × StandsFor t vs words lists c) ⊎ ((can_link t at home to ≡ true) × LinkedStands t vs words at slot to c)
+-- the bound stays, and what it refuses is counted
+pub record CountsRefused (refuses : Bool) (old new : Chip) : Type 0 where
+  pub most : new.most ≡ old.most
+  pub refused : new.counts.refused ≡ (if refuses then (old.counts.refused + 1) % 2 ^ 32 else old.counts.refused)
+
+-- The exit's block is gone, and nothing has changed; or it has become a link; or as many lead into the slot as may, and only that is counted.
+abbrev pub LinkedExit : Slots → Images → List ℕ → List (List ℕ) → ℕ → ℕ → ℕ → ℕ → Chip → Chip → Type 0
+LinkedExit t vs words lists at home slot to old c =
+    ((can_link t at home to ≡ false) × StandsFor t vs words lists c × CountsRefused false old c)
+    ⊎ (((can_link t at home to ≡ true) × (slice_index old.links.now slot < old.most) × LinkedStands t vs words at slot to c × CountsRefused false old c)
+    ⊎ ((can_link t at home to ≡ true) × (old.most ≤ slice_index old.links.now slot) × StandsFor t vs words lists c × CountsRefused true old c))
 
 -- the reasons for which a call answers no address, which is a multiple of 4
 abbrev pub no_text : ℕ
@@ -177,22 +184,23 @@ AnswersAt None s next v c target answer = (answer ≡ no_text) × (next ≡ s)
 AnswersAt (Some p) s next v c target answer = (i : ℕ) × (answer ≡ address_of c i) × TargetAt v (kept_by next) target i
 
 -- the service has served a transfer by its policy
-pub record ChipServed (s : Slots) (vs : Images) (t : Transfer) (answer : ℕ) (c : Chip) : Type 0 where
+pub record ChipServed (s : Slots) (vs : Images) (t : Transfer) (answer : ℕ) (old c : Chip) : Type 0 where
   pub next : Slots
   pub words : List ℕ
   pub lists : List (List ℕ)
   pub stands : StandsFor next vs words lists c
   pub setting : setting_of next ≡ setting_of s
-  pub moves : kept_by next ≡ fifo (setting_of s) (kept_by s) (vs s.turn) t
+  pub moves : kept_by next ≡ fifo_few old.most (setting_of s) (kept_by s) (vs s.turn) t
+  pub bound : CountsRefused (is_refused old.most (setting_of s) (kept_by s) (vs s.turn) t) old c
   pub answers : AnswersAt (place_of (vs s.turn) (target_of t)) s next (vs s.turn) c (target_of t) answer
 
 -- `enter` and `cross`, for whatever service the chip stands for
 abbrev pub Enters : Chip → Chip → ℕ → ℕ → Type 0
-Enters old new target answer = (s : Slots) (vs : Images) (ram : List ℕ) (lists : List (List ℕ)) → StandsFor s vs ram lists old → ChipServed s vs (indirect target) answer new
+Enters old new target answer = (s : Slots) (vs : Images) (ram : List ℕ) (lists : List (List ℕ)) → StandsFor s vs ram lists old → ChipServed s vs (indirect target) answer old new
 
 abbrev pub Crosses : Chip → Chip → ℕ → ℕ → ℕ → Type 0
 Crosses old new at target answer = (s : Slots) (vs : Images) (ram : List ℕ) (lists : List (List ℕ)) → StandsFor s vs ram lists old → ExitAt (vs s.turn) (kept_by s) at target →
-    (b o f : ℕ) → Placed (kept_by s) b f → o < length_at (vs s.turn) b → at ≡ f + o → ChipServed s vs (direct b o target) answer new
+    (b o f : ℕ) → Placed (kept_by s) b f → o < length_at (vs s.turn) b → at ≡ f + o → ChipServed s vs (direct b o target) answer old new
 
 -- the same, where the target's block, with an offset, stands in no slot
 pub record CanEnterNew (c : Chip) (block offset : ℕ) : Type 0 where
@@ -209,11 +217,11 @@ pub record CanCrossNew (c : Chip) (at block offset : ℕ) : Type 0 where
   pub exit : ExitAt (some.vs some.s.turn) (kept_by some.s) at target
 
 abbrev pub EntersNew : Chip → Chip → ℕ → ℕ → ℕ → Type 0
-EntersNew old new block offset answer = (s : Slots) (vs : Images) (ram : List ℕ) (lists : List (List ℕ)) → StandsFor s vs ram lists old → (target : ℕ) → place_of (vs s.turn) target ≡ Some (block, offset) → ChipServed s vs (indirect target) answer new
+EntersNew old new block offset answer = (s : Slots) (vs : Images) (ram : List ℕ) (lists : List (List ℕ)) → StandsFor s vs ram lists old → (target : ℕ) → place_of (vs s.turn) target ≡ Some (block, offset) → ChipServed s vs (indirect target) answer old new
 
 abbrev pub CrossesNew : Chip → Chip → ℕ → ℕ → ℕ → ℕ → Type 0
 CrossesNew old new at block offset answer = (s : Slots) (vs : Images) (ram : List ℕ) (lists : List (List ℕ)) → StandsFor s vs ram lists old → (target : ℕ) → place_of (vs s.turn) target ≡ Some (block, offset) → ExitAt (vs s.turn) (kept_by s) at target →
-    (b o f : ℕ) → Placed (kept_by s) b f → o < length_at (vs s.turn) b → at ≡ f + o → ChipServed s vs (direct b o target) answer new
+    (b o f : ℕ) → Placed (kept_by s) b f → o < length_at (vs s.turn) b → at ≡ f + o → ChipServed s vs (direct b o target) answer old new
 
 -- what is counted at a miss, and at a service
 pub record CountedMiss (old new : ChipCounts) (evicts : Bool) (undone words : ℕ) : Type 0 where

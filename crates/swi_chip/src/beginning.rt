@@ -4,6 +4,7 @@
 ghost use Rattle.std.specs.Prelude.{◌≡◌, ◌+◌, ◌*◌, ◌/◌, ◌%◌, ◌^◌, ◌<◌, ◌==◌, ℕ, List, [], length, replicate, slice_index};
 ghost use Rattle.swi_image.specs.Format.{ImageData};
 ghost use Rattle.swi_chip.specs.Memo.{HasNone};
+ghost use Rattle.swi_chip.specs.Service.{StaysPut};
 ghost use Rattle.swi_chip.specs.Starting.{CanStart, Starts};
 
 use crate::chip::{Chip, ChipCounts};
@@ -37,6 +38,7 @@ pub fn start(chip: &mut Chip<'_>)
     requires memo { length chip.old.memo.now ≡ 17 }
     ensures starts { (v : ImageData) → CanStart chip.old v → Starts chip.old v chip.new }
     ensures memo { HasNone chip.new.memo.now }
+    ensures stays { StaysPut chip.old chip.new }
 {
     clear_counts(&mut chip.counts);
     chip.next = 0;

@@ -9,7 +9,7 @@ ghost use Rattle.swi_slots.specs.Slots.{Slots};
 ghost use Rattle.swi_slots.specs.Steps.{wrapped};
 ghost use Rattle.swi_slots.specs.Keys.{Images};
 ghost use Rattle.swi_chip.specs.Undone.{begin_in};
-ghost use Rattle.swi_chip.specs.Service.{CanCross, CanCrossNew, CanEnterNew, CanFill, CanLinkHere, CanLinkExit, CountedMiss, CountedService, Crosses, CrossesNew, Enters, EntersNew, HasArrived, HasTables, IsSome, LinkedExit, Exits, CanExit, StandsFor, StaysPut, ToFill, ToLinkExit};
+ghost use Rattle.swi_chip.specs.Service.{CanCross, CanCrossNew, CanEnterNew, CanFill, CanLinkHere, CanLinkExit, CountsRefused, CountedMiss, CountedService, Crosses, CrossesNew, Enters, EntersNew, HasArrived, HasTables, IsSome, LinkedExit, Exits, CanExit, StandsFor, StaysPut, ToFill, ToLinkExit};
 
 use crate::answer::{DAMAGED, NO_TEXT};
 use crate::chip::{Chip, ChipCounts};
@@ -104,6 +104,7 @@ fn fill(chip: &mut Chip<'_>, block: u32) -> u32
     requires can { CanFill chip.old block }
     ensures arrived { (s : Slots) (vs : Images) (ram : List ℕ) (lists : List (List ℕ)) → ToFill s vs ram lists block chip.old →
         HasArrived s vs ram block result chip.new }
+    ensures bound { CountsRefused false chip.old chip.new }
     ensures stays { StaysPut chip.old chip.new }
 {
     let slot = chip.next;
@@ -194,14 +195,19 @@ pub fn enter(chip: &mut Chip<'_>, target: u32) -> u32
     address(chip.cache_at, mark - 1 + offset)
 }
 
-/// Makes the exit at an index a jump to another one, in a slot. The cache is small, so that each JAL reaches.
+/// Makes the exit at an index a jump to another one, in a slot, but where as many lead there as may: then it only counts
+/// that. The cache is small, so that each JAL reaches.
 #[inline(always)]
 fn link_here(chip: &mut Chip<'_>, at: u32, slot: u32, to: u32)
     requires can { CanLinkHere chip.old at slot to }
     ensures linked { (t : Slots) (vs : Images) (words : List ℕ) (lists : List (List ℕ)) (home : ℕ) → ToLinkExit t vs words lists at home slot to chip.old →
-        slice_index chip.old.blocks.now (at / chip.old.size.words) ≡ home → LinkedExit t vs words lists at home slot to chip.new }
+        slice_index chip.old.blocks.now (at / chip.old.size.words) ≡ home → LinkedExit t vs words lists at home slot to chip.old chip.new }
     ensures stays { StaysPut chip.old chip.new }
 {
+    if u32::from(chip.links[slot as usize]) >= chip.most {
+        chip.counts.refused = chip.counts.refused.wrapping_add(1);
+        return;
+    }
     link(chip.cache, chip.heads, chip.links, at, slot, to);
     chip.counts.links = chip.counts.links.wrapping_add(1);
 }
@@ -211,7 +217,7 @@ fn link_here(chip: &mut Chip<'_>, at: u32, slot: u32, to: u32)
 fn link_exit(chip: &mut Chip<'_>, at: u32, home: u32, slot: u32, to: u32)
     requires can { CanLinkExit chip.old at home slot to }
     ensures linked { (t : Slots) (vs : Images) (words : List ℕ) (lists : List (List ℕ)) → ToLinkExit t vs words lists at home slot to chip.old →
-        LinkedExit t vs words lists at home slot to chip.new }
+        LinkedExit t vs words lists at home slot to chip.old chip.new }
     ensures stays { StaysPut chip.old chip.new }
 {
     let row = chip.size.slot_of(at);

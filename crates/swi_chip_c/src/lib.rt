@@ -18,6 +18,7 @@ pub extern "C" fn chip_start(chip: &mut Chip<'_>)
     requires memo { length chip.old.memo.now ≡ 17 }
     ensures starts { (v : ImageData) → CanStart chip.old v → Starts chip.old v chip.new }
     ensures memo { HasNone chip.new.memo.now }
+    ensures stays { StaysPut chip.old chip.new }
 {
     swi_chip::start(chip)
 }

@@ -87,5 +87,5 @@ returns-clause-served c = λ s vs ram lists k x b o f placed inside at_place.
     let slot_is = c.slot_of-slot.ensures ∙ slot_found h in
     let to : ℕ = c.from-mark.result - 1 + c.in-Some.offset in
     let le = to_link_exit k c.args.at c.args.target x is h home c.slot_of-slot.result to refl slot_is (place_found h c.in-Some.offset) in
-    crossed_some k c.args.at c.args.target x is h home c.slot_of-slot.result to c.link_here.new.chip refl slot_is (place_found h c.in-Some.offset) (c.link_here.ensures.linked h.next vs h.words h.lists home le refl) b o f placed inside at_place
+    crossed_some k c.args.at c.args.target x is h (record { most = refl; refused = c.count_service.ensures.refused }) home c.slot_of-slot.result to c.link_here.new.chip refl slot_is (place_found h c.in-Some.offset) (c.link_here.ensures.linked h.next vs h.words h.lists home le refl) b o f placed inside at_place
     c.address.result c.address.ensures c.link_here.ensures.stays.cache_at)

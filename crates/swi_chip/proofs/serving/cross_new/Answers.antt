@@ -74,5 +74,5 @@ returns-clause-served c = λ s vs ram lists k target is x b o f placed inside at
     let slot_is = c.slot_of-slot.ensures ∙ slot_found h in
     let to : ℕ = c.fill-first.result - 1 + c.args.offset in
     let le = to_link_exit k c.args.at target x is h home c.slot_of-slot.result to home_is slot_is (place_found h c.args.offset) in
-    crossed_some k c.args.at target x is h home c.slot_of-slot.result to c.link_exit.new.chip home_is slot_is (place_found h c.args.offset) (c.link_exit.ensures.linked h.next vs h.words h.lists le) b o f placed inside at_place
+    crossed_some k c.args.at target x is h (record { most = c.fill-first.ensures.bound.most; refused = c.fill-first.ensures.bound.refused ∙ c.count_service.ensures.refused }) home c.slot_of-slot.result to c.link_exit.new.chip home_is slot_is (place_found h c.args.offset) (c.link_exit.ensures.linked h.next vs h.words h.lists le) b o f placed inside at_place
     c.address.result c.address.ensures c.link_exit.ensures.stays.cache_at)

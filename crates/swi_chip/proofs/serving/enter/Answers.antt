@@ -48,4 +48,4 @@ pub returns-clause-served : goal.returns-clause-served
 returns-clause-served c = λ s vs ram lists k.
     (let is : place_of (vs s.turn) c.args.target ≡ Some (c.in-Some.block, c.in-Some.offset) = sym (c.place.ensures (vs s.turn) c.args.chip.now.ends.now (k.serves.images s.turn) k.tables) ∙ c.in-Some.is in
     let p = place_known (vs s.turn) c.args.target c.in-Some.block c.in-Some.offset (k.serves.images s.turn) is in
-    entered_some {s = s} {vs = vs} {ram = ram} c.args.target c.in-Some.block c.in-Some.offset _ is (hit_at k c.in-Some.block p.0 c.from-mark.result c.from-mark.ensures c.count_service.new.counts c.count_service.ensures c.if-mark-eq0.false) c.address.result c.address.ensures)
+    entered_some {s = s} {vs = vs} {ram = ram} {c = c.args.chip.now} (record { most = refl; refused = c.count_service.ensures.refused }) c.args.target c.in-Some.block c.in-Some.offset _ is (hit_at k c.in-Some.block p.0 c.from-mark.result c.from-mark.ensures c.count_service.new.counts c.count_service.ensures c.if-mark-eq0.false) c.address.result c.address.ensures)

@@ -1,4 +1,4 @@
-use Rattle.std.proofs.Common.{arith, refl}
+use Rattle.std.proofs.Common.{arith, refl, ◌∙◌}
 use Rattle.swi_chip.specs.Service.{HasArrived}
 use Rattle.swi_chip.proofs.Crossing.{mark_some}
 use Rattle.swi_chip.proofs.Entering.{entered_some, index_few, place_known, mark_low, to_fill}
@@ -41,4 +41,4 @@ returns-clause-served c = λ s vs ram lists k target is.
     (let p = place_known (vs s.turn) target c.args.block c.args.offset (k.serves.images s.turn) is in
     let x = c.requires.can in
     let h : HasArrived s vs ram c.args.block c.fill-mark.result c.fill-mark.new.chip = c.fill-mark.ensures.arrived s vs ram lists (to_fill k c.args.block p.0 c.count_service.new.counts c.count_service.ensures x.absent) in
-    entered_some {s = s} {vs = vs} {ram = ram} target c.args.block c.args.offset c.fill-mark.result is h c.address.result c.address.ensures)
+    entered_some {s = s} {vs = vs} {ram = ram} {c = c.args.chip.now} (record { most = c.fill-mark.ensures.bound.most; refused = c.fill-mark.ensures.bound.refused ∙ c.count_service.ensures.refused }) target c.args.block c.args.offset c.fill-mark.result is h c.address.result c.address.ensures)
