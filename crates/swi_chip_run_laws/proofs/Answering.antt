@@ -5,12 +5,13 @@ use Rattle.swi_image.specs.Place.{place_of}
 use Rattle.swi_calls.specs.declared.end.End.{End}
 use Rattle.swi_calls.specs.declared.machine.Machine.{Machine}
 use Rattle.swi_rom.specs.Record.{Placed, indirect}
-use Rattle.swi_slots.specs.Slots.{Slots, kept_by}
+use Rattle.swi_slots.specs.Slots.{Slots, kept_by, setting_of}
 use Rattle.swi_hart.specs.declared.hart.Stage.TheVariants.{Start, Low, Return, Leave}
 use Rattle.swi_hart.specs.declared.hart.Control.{Control}
 use Rattle.swi_hart.specs.declared.hart.Control.TheVariants.{At, Outside}
 use Rattle.swi_hart.specs.Matching.{Agrees, Arrives, Stands}
 use Rattle.swi_chip.specs.declared.chip.Chip.{Chip}
+use Rattle.swi_chip.specs.Bounded.{fifo_few}
 use Rattle.swi_chip.specs.Service.{AnswersAt, ChipServed}
 use Rattle.swi_chip_run_laws.specs.Calls.{GoesOnAt}
 use Rattle.swi_chip_run_laws.specs.Runs.{EntersRight}
@@ -65,13 +66,13 @@ agrees v next f (Some e) c a = refl
 
 pub enters_right : EntersRight
 enters_right v s ram lists old new f answer c k e goes =
-    let q : ChipServed s (λ p. v) (indirect f.pc) answer new = e s (λ p. v) ram lists k in
+    let q : ChipServed s (λ p. v) (indirect f.pc) answer old new = e s (λ p. v) ram lists k in
     record {
       next = q.next;
       words = q.words;
       lists = q.lists;
       stands = q.stands;
       setting = q.setting;
-      moves = q.moves;
+      moves = q.moves ∙ ap (λ (m : ℕ). fifo_few m (setting_of s) (kept_by s) v (indirect f.pc)) (sym q.bound.most);
       matches = agrees v q.next f f.ending c (arrives s q.next v new f.pc answer q.stands.numbers.aligned q.answers c goes);
     }

@@ -7,10 +7,8 @@ use Rattle.swi_calls.specs.Flat.{started}
 use Rattle.swi_image.specs.Format.{ImageData}
 use Rattle.swi_render.specs.Carried.{Carries}
 use Rattle.swi_rom.specs.Coherent.{Coherent}
-use Rattle.swi_rom.specs.Policy.{served_over_link, with_link}
 use Rattle.swi_rom.specs.Service.{Setting}
 use Rattle.swi_slots.specs.Coheres.{coheres}
-use Rattle.swi_slots.specs.Fifo.{arrived, fifo}
 use Rattle.swi_slots.specs.Slots.{Slots, kept_by, setting_of, span_of}
 use Rattle.swi_hart.specs.declared.hart.Control.{Control}
 use Rattle.swi_hart.specs.declared.hart.Control.TheVariants.{At, Outside}
@@ -21,7 +19,9 @@ use Rattle.swi_hart.proofs.Kept.{image_same, next_text}
 use Rattle.swi_hart.proofs.Midway.{step_follows}
 use Rattle.swi_board.specs.Moments.{events}
 use Rattle.swi_board.specs.Transfers.{cost, here_of, spent_run}
+use Rattle.swi_chip.specs.Bounded.{fifo_few}
 use Rattle.swi_chip.specs.Service.{StandsFor}
+use Rattle.swi_chip.proofs.Bounding.{few_over_link}
 use Rattle.swi_chip_laws.specs.Holding.{Under}
 use Rattle.swi_chip_laws.specs.Running.{ChipMoved, ChipRanSteps, ChipState, ChipStepAt, HoldsCache, IsChipRun, ServesBy, StandsAfter, moment_of}
 use Rattle.swi_chip_laws.proofs.Running.{follows_events, runs_in_steps}
@@ -32,7 +32,7 @@ use Rattle.swi_chip_run_laws.specs.Runs.{IsProcessorRun, ProcessorFollows, Proce
 use Rattle.swi_chip_run_laws.proofs.Stepping.{Behind, behind}
 
 -- what a state behind j machine instructions stands for, and the flat machine where its hart stands; from the n-th on it is the same state
-pub record Along (v : ImageData) (by : Setting) (n : ℕ) (at : ℕ → ProcessorState) (j : ℕ) : Type 0 where
+pub record Along (v : ImageData) (by : Setting) (most n : ℕ) (at : ℕ → ProcessorState) (j : ℕ) : Type 0 where
   pub state : ProcessorState
   pub is : j ≤ n → state ≡ at j
   pub s : Slots
@@ -40,21 +40,22 @@ pub record Along (v : ImageData) (by : Setting) (n : ℕ) (at : ℕ → Processo
   pub lists : List (List ℕ)
   pub stands : StandsFor s (λ p. v) words lists state.chip
   pub setting : setting_of s ≡ by
+  pub bound : state.chip.most ≡ most
   pub flat : Machine
   pub image : Carries (fetched flat.bus) v
   pub matches : Matches v (kept_by s) flat state.hart.machine state.hart.control
 
 module _ (v : ImageData) (s : Slots) (ram : List ℕ) (lists : List (List ℕ)) (n : ℕ) (f : Machine) (at : ℕ → ProcessorState) (k : StandsFor s (λ p. v) ram lists (at 0).chip) (run : IsProcessorRun v s n f at) where
   abbrev Here : ℕ → Type 0
-  Here j = Along v (setting_of s) n at j
+  Here j = Along v (setting_of s) (at 0).chip.most n at j
 
-  abbrev chip_of : {j : ℕ} → Along v (setting_of s) n at j → ChipState
+  abbrev chip_of : {j : ℕ} → Along v (setting_of s) (at 0).chip.most n at j → ChipState
   chip_of x = state_of x.s x.words x.state
 
-  first : Along v (setting_of s) n at 0
-  first = record { state = at 0; is = λ le. refl; s = s; words = ram; lists = lists; stands = k; setting = refl; flat = f; image = run.image; matches = run.matches }
+  first : Along v (setting_of s) (at 0).chip.most n at 0
+  first = record { state = at 0; is = λ le. refl; s = s; words = ram; lists = lists; stands = k; setting = refl; bound = refl; flat = f; image = run.image; matches = run.matches }
 
-  module _ (j : ℕ) (x : Along v (setting_of s) n at j) where
+  module _ (j : ℕ) (x : Along v (setting_of s) (at 0).chip.most n at j) where
     coherent : Coherent v (kept_by x.s) (x.s.slots * x.s.size) x.words
     coherent = coheres x.s v x.words ((λ p. v), (refl, x.stands.serves))
 
@@ -98,7 +99,7 @@ module _ (v : ImageData) (s : Slots) (ram : List ℕ) (lists : List (List ℕ)) 
       follows : Follows v (kept_by step.next) move.step (next_made v x.state.hart.machine x.state.hart.control x.flat x.state.input)
       follows = follows_by x.state.hart.control refl step.is
 
-      next : Along v (setting_of s) n at (suc j)
+      next : Along v (setting_of s) (at 0).chip.most n at (suc j)
       next = record {
         state = at (suc j);
         is = λ le. refl;
@@ -107,18 +108,20 @@ module _ (v : ImageData) (s : Slots) (ram : List ℕ) (lists : List (List ℕ)) 
         lists = step.lists;
         stands = step.stands;
         setting = step.setting ∙ x.setting;
+        bound = step.bound ∙ x.bound;
         flat = (next_made v x.state.hart.machine x.state.hart.control x.flat x.state.input).machine;
         image = image_same v (λ y. fetched x.flat.bus y) (λ y. fetched (next_made v x.state.hart.machine x.state.hart.control x.flat x.state.input).machine.bus y)
             (λ y. next_text y v x.state.hart.machine x.state.hart.control x.flat x.state.input) x.image;
         matches = subst (λ (h : HartData). Matches v (kept_by step.next) (next_made v x.state.hart.machine x.state.hart.control x.flat x.state.input).machine h.machine h.control) (sym move.hart) follows.matches;
       }
 
-      moved_on : ChipMoved (fifo (setting_of s)) v (state_of x.s x.words x.state) (state_of step.next step.words (at (suc j)))
+      moved_on : ChipMoved (fifo_few (at 0).chip.most (setting_of s)) v (state_of x.s x.words x.state) (state_of step.next step.words (at (suc j)))
       moved_on = record {
         running = move.running;
         step = move.step;
         is = step.is;
-        serves = subst (λ (by : Setting). ServesBy (fifo by) v (kept_by x.s) (kept_by step.next) x.state.hart.machine x.state.chip.cache.now x.state.hart.control) x.setting step.serves;
+        serves = subst (λ (m : ℕ). ServesBy (fifo_few m (setting_of s)) v (kept_by x.s) (kept_by step.next) x.state.hart.machine x.state.chip.cache.now x.state.hart.control) x.bound
+            (subst (λ (by : Setting). ServesBy (fifo_few x.state.chip.most by) v (kept_by x.s) (kept_by step.next) x.state.hart.machine x.state.chip.cache.now x.state.hart.control) x.setting step.serves);
         hart = move.hart;
         input = move.input;
         output = move.output;
@@ -126,7 +129,7 @@ module _ (v : ImageData) (s : Slots) (ram : List ℕ) (lists : List (List ℕ)) 
       }
 
     -- behind the last one nothing changes
-    on : (j < n) ⊎ (n ≤ j) → Along v (setting_of s) n at (suc j)
+    on : (j < n) ⊎ (n ≤ j) → Along v (setting_of s) (at 0).chip.most n at (suc j)
     on (inl lt) = next lt
     on (inr past) = record {
       state = x.state;
@@ -136,31 +139,32 @@ module _ (v : ImageData) (s : Slots) (ram : List ℕ) (lists : List (List ℕ)) 
       lists = x.lists;
       stands = x.stands;
       setting = x.setting;
+      bound = x.bound;
       flat = x.flat;
       image = x.image;
       matches = x.matches;
     }
 
-    on_moved : (t : (j < n) ⊎ (n ≤ j)) → j < n → ChipMoved (fifo (setting_of s)) v (state_of x.s x.words x.state) (state_of (on t).s (on t).words (on t).state)
+    on_moved : (t : (j < n) ⊎ (n ≤ j)) → j < n → ChipMoved (fifo_few (at 0).chip.most (setting_of s)) v (state_of x.s x.words x.state) (state_of (on t).s (on t).words (on t).state)
     unfolding on next
     on_moved (inl lt) less = moved_on lt
     on_moved (inr past) less = absurd (omega (arith, less, past))
 
-  along : (j : ℕ) → Along v (setting_of s) n at j
+  along : (j : ℕ) → Along v (setting_of s) (at 0).chip.most n at j
   along zero = first
   along (suc j) = on j (along j) (cases_lt j n)
 
   abbrev chips : ℕ → ChipState
   chips j = state_of (along j).s (along j).words (along j).state
 
-  moves : (j : ℕ) → j < n → ChipMoved (fifo (setting_of s)) v (state_of (along j).s (along j).words (along j).state) (state_of (along (suc j)).s (along (suc j)).words (along (suc j)).state)
+  moves : (j : ℕ) → j < n → ChipMoved (fifo_few (at 0).chip.most (setting_of s)) v (state_of (along j).s (along j).words (along j).state) (state_of (along (suc j)).s (along (suc j)).words (along (suc j)).state)
   unfolding along
   moves j lt = on_moved j (along j) (cases_lt j n) lt
 
-  chip_run : IsChipRun (fifo (setting_of s)) v (span_of (setting_of s)) n f (λ j. state_of (along j).s (along j).words (along j).state)
+  chip_run : IsChipRun (fifo_few (at 0).chip.most (setting_of s)) v (span_of (setting_of s)) n f (λ j. state_of (along j).s (along j).words (along j).state)
   unfolding along first
   chip_run = record {
-    policy = λ r w b o t linked. served_over_link arrived with_link (setting_of s) r w b o t linked;
+    policy = λ r w b o t linked. few_over_link (at 0).chip.most (setting_of s) r w b o t linked;
     small = k.serves.shape.words_few;
     ran = record { holds = λ j le. holds j (along j) le; moves = moves };
     image = run.image;
@@ -181,8 +185,8 @@ module _ (v : ImageData) (s : Slots) (ram : List ℕ) (lists : List (List ℕ)) 
     lists = (along n).lists;
     stands = last_stands;
     setting = (along n).setting;
-    after = subst (λ (q : ProcessorState). StandsAfter v (events (fifo (setting_of s)) v n (moment_of v f (state_of s ram (at 0)))) (state_of s ram (at 0)) (state_of (along n).s (along n).words q)) last_is
-        (follows_events (fifo (setting_of s)) v (span_of (setting_of s)) n f (λ j. state_of (along j).s (along j).words (along j).state) chip_run);
+    after = subst (λ (q : ProcessorState). StandsAfter v (events (fifo_few (at 0).chip.most (setting_of s)) v n (moment_of v f (state_of s ram (at 0)))) (state_of s ram (at 0)) (state_of (along n).s (along n).words q)) last_is
+        (follows_events (fifo_few (at 0).chip.most (setting_of s)) v (span_of (setting_of s)) n f (λ j. state_of (along j).s (along j).words (along j).state) chip_run);
   }
 
   pub ran : (steps : ℕ) → spent_run f (at 0).hart.control ≡ 0 → n ≡ cost v steps (started f (at 0).input) (here_of v f (at 0).hart.control) → ProcessorRan v s ram steps f (at 0) (at n)
@@ -193,8 +197,8 @@ module _ (v : ImageData) (s : Slots) (ram : List ℕ) (lists : List (List ℕ)) 
     lists = (along n).lists;
     stands = last_stands;
     setting = (along n).setting;
-    ran = subst (λ (q : ProcessorState). ChipRanSteps (fifo (setting_of s)) v steps f (state_of s ram (at 0)) (state_of (along n).s (along n).words q)) last_is
-        (runs_in_steps (fifo (setting_of s)) v (span_of (setting_of s)) n steps f (λ j. state_of (along j).s (along j).words (along j).state) chip_run none many);
+    ran = subst (λ (q : ProcessorState). ChipRanSteps (fifo_few (at 0).chip.most (setting_of s)) v steps f (state_of s ram (at 0)) (state_of (along n).s (along n).words q)) last_is
+        (runs_in_steps (fifo_few (at 0).chip.most (setting_of s)) v (span_of (setting_of s)) n steps f (λ j. state_of (along j).s (along j).words (along j).state) chip_run none many);
   }
 
 pub processor_follows : ProcessorFollows

@@ -14,7 +14,6 @@ use Rattle.swi_image.specs.Sound.{IsImage}
 use Rattle.swi_rom.specs.Record.{Record, Transfer, direct, ebreak, indirect, is_linked, jump_word}
 use Rattle.swi_rom.specs.Coherent.{Coherent, ExitAt}
 use Rattle.swi_slots.specs.Coheres.{coheres}
-use Rattle.swi_slots.specs.Fifo.{fifo}
 use Rattle.swi_slots.specs.Keys.{key_number, key_of, number_of}
 use Rattle.swi_slots.specs.Slots.{Slots, kept_by, setting_of}
 use Rattle.swi_hart.specs.declared.hart.Control.{Control}
@@ -27,6 +26,7 @@ use Rattle.swi_hart.specs.Matching.{Jumps, JumpsBy}
 use Rattle.swi_chip.specs.declared.chip.Chip.{Chip}
 use Rattle.swi_chip.specs.Leaving as leaving
 use Rattle.swi_chip.specs.Owned.{is_jump}
+use Rattle.swi_chip.specs.Bounded.{fifo_few}
 use Rattle.swi_chip.specs.Service.{ChipServed, StandsFor, address_of, far_in}
 use Rattle.swi_chip_laws.specs.Holding.{HoldsWords, ReadsBehind, Under}
 use Rattle.swi_chip_laws.specs.Running.{ChipStepAt, ServesBy}
@@ -43,8 +43,9 @@ pub record Behind (v : ImageData) (s : Slots) (a b : ProcessorState) (step : Ste
   pub lists : List (List ℕ)
   pub stands : StandsFor next (λ p. v) words lists b.chip
   pub setting : setting_of next ≡ setting_of s
+  pub bound : b.chip.most ≡ a.chip.most
   pub is : ChipStepAt c v (kept_by s) (kept_by next) a.hart.machine step a.input a.chip.cache.now
-  pub serves : ServesBy (fifo (setting_of s)) v (kept_by s) (kept_by next) a.hart.machine a.chip.cache.now c
+  pub serves : ServesBy (fifo_few a.chip.most (setting_of s)) v (kept_by s) (kept_by next) a.hart.machine a.chip.cache.now c
 
 -- the word of a link is a JAL x0
 low_jump : (x y z u : ℕ) → (x * 2 ^ 31 + y * 2 ^ 21 + z * 2 ^ 20 + u * 2 ^ 12 + 0 * 2 ^ 7 + 0x6F) % 2 ^ 12 ≡ 0x6f
@@ -80,13 +81,14 @@ module _ (v : ImageData) (s : Slots) (ram : List ℕ) (lists : List (List ℕ)) 
 
   -- the service isn't asked
   stays : (c : Control) → b.chip ≡ a.chip → ChipStepAt c v (kept_by s) (kept_by s) a.hart.machine step a.input a.chip.cache.now →
-      ServesBy (fifo (setting_of s)) v (kept_by s) (kept_by s) a.hart.machine a.chip.cache.now c → Behind v s a b step c
+      ServesBy (fifo_few a.chip.most (setting_of s)) v (kept_by s) (kept_by s) a.hart.machine a.chip.cache.now c → Behind v s a b step c
   stays c same is serves = record {
     next = s;
     words = ram;
     lists = lists;
     stands = subst (λ (x : Chip). StandsFor s (λ p. v) ram lists x) (sym same) k;
     setting = refl;
+    bound = ap (λ (x : Chip). x.most) same;
     is = is;
     serves = serves;
   }
@@ -147,9 +149,9 @@ module _ (v : ImageData) (s : Slots) (ram : List ℕ) (lists : List (List ℕ)) 
       leaves d new kind l =
           inl (is, subst (λ (x : ExitKind). LeavesBy x v new a.hart.machine step a.input a.chip.cache.now w.index w.block w.offset w.stage) (sym kind) l)
 
-      serves_by : (d : ExitKind) (new : Record) → exit_kind (held a (w.index + 1)) ≡ d → new ≡ moved (fifo (setting_of s)) (kept_by s) v (exit_transfer d v a.hart.machine w.block w.offset) →
-          ServesBy (fifo (setting_of s)) v (kept_by s) new a.hart.machine a.chip.cache.now (control_of w)
-      serves_by d new kind e = λ ebreak_is. e ∙ ap (λ (t : Option Transfer). moved (fifo (setting_of s)) (kept_by s) v t) (sym (transfer d kind))
+      serves_by : (d : ExitKind) (new : Record) → exit_kind (held a (w.index + 1)) ≡ d → new ≡ moved (fifo_few a.chip.most (setting_of s)) (kept_by s) v (exit_transfer d v a.hart.machine w.block w.offset) →
+          ServesBy (fifo_few a.chip.most (setting_of s)) v (kept_by s) new a.hart.machine a.chip.cache.now (control_of w)
+      serves_by d new kind e = λ ebreak_is. e ∙ ap (λ (t : Option Transfer). moved (fifo_few a.chip.most (setting_of s)) (kept_by s) v t) (sym (transfer d kind))
 
       -- where the block's words stand in the cache
       within : (n : ℕ) → w.offset + n < length_at v w.block → w.index + n < s.slots * s.size
@@ -158,7 +160,7 @@ module _ (v : ImageData) (s : Slots) (ram : List ℕ) (lists : List (List ℕ)) 
       far : (n : ℕ) → w.offset + n < length_at v w.block → far_in a.chip (address_of a.chip w.index) ≡ 4 * w.index
       far n short = far_is a.chip.cache_at (s.slots * s.size) w.index k.numbers.room (let m = within n short in omega (arith, m))
 
-      served : (t : Transfer) (answer : ℕ) (d : ExitKind) → exit_kind (held a (w.index + 1)) ≡ d → (q : ChipServed s (λ p. v) t answer b.chip) →
+      served : (t : Transfer) (answer : ℕ) (d : ExitKind) → exit_kind (held a (w.index + 1)) ≡ d → (q : ChipServed s (λ p. v) t answer a.chip b.chip) →
           exit_transfer d v a.hart.machine w.block w.offset ≡ Some t → LeavesBy d v (kept_by q.next) a.hart.machine step a.input a.chip.cache.now w.index w.block w.offset w.stage →
           Behind v s a b step (control_of w)
       served t answer d kind q made l = record {
@@ -167,8 +169,9 @@ module _ (v : ImageData) (s : Slots) (ram : List ℕ) (lists : List (List ℕ)) 
         lists = q.lists;
         stands = q.stands;
         setting = q.setting;
+        bound = q.bound.most;
         is = leaves d (kept_by q.next) kind l;
-        serves = serves_by d (kept_by q.next) kind (q.moves ∙ ap (λ (x : Option Transfer). moved (fifo (setting_of s)) (kept_by s) v x) (sym made));
+        serves = serves_by d (kept_by q.next) kind (q.moves ∙ ap (λ (x : Option Transfer). moved (fifo_few a.chip.most (setting_of s)) (kept_by s) v x) (sym made));
       }
 
       calls_exit : exit_kind (held a (w.index + 1)) ≡ Direct → CallsExit v a b step w → Behind v s a b step (control_of w)
@@ -189,7 +192,7 @@ module _ (v : ImageData) (s : Slots) (ram : List ℕ) (lists : List (List ℕ)) 
             not_linked = not_linked;
             descriptor = read.descriptor;
           } in
-          let q : ChipServed s (λ p. v) (direct w.block w.offset target) c.answer b.chip =
+          let q : ChipServed s (λ p. v) (direct w.block w.offset target) c.answer a.chip b.chip =
           c.served.0 cells s (λ p. v) ram lists k (subst (λ (i : ℕ). ExitAt v (kept_by s) i target) (sym index) there) w.block w.offset home.first home.is_placed (inside u) (index ∙ home.index) in
           served (direct w.block w.offset target) c.answer Direct kind q (ap (λ (n : ℕ). Some (direct w.block w.offset n)) (sym read.descriptor))
           (arrives s q.next v b.chip target c.answer q.stands.numbers.aligned q.answers step.control c.goes, c.made)
@@ -248,7 +251,7 @@ module _ (v : ImageData) (s : Slots) (ram : List ℕ) (lists : List (List ℕ)) 
         calls_leave = elim (cases_Bool (jalr_target a.hart.machine c.rs1 c.imm % 4 == 0)) [
           | inl even ↦
               let four : jalr_target a.hart.machine c.rs1 c.imm % 4 ≡ 0 = eqb-true _ _ even in
-              let q : ChipServed s (λ p. v) (indirect (jalr_target a.hart.machine c.rs1 c.imm)) c.answer b.chip = c.served.enters at_exit four s (λ p. v) ram lists k in
+              let q : ChipServed s (λ p. v) (indirect (jalr_target a.hart.machine c.rs1 c.imm)) c.answer a.chip b.chip = c.served.enters at_exit four s (λ p. v) ram lists k in
               let few = answer_is s q.next v b.chip (jalr_target a.hart.machine c.rs1 c.imm) c.answer q.stands.numbers.aligned q.answers in
               let goes = c.goes few.1 in
               let words = linked_words (c.links.links at_exit four few.0) in

@@ -6,13 +6,13 @@ use Rattle.swi_calls.specs.Flat.{started}
 use Rattle.swi_image.specs.Format.{ImageData}
 use Rattle.swi_render.specs.Carried.{Carries}
 use Rattle.swi_rom.specs.Record.{indirect}
-use Rattle.swi_slots.specs.Fifo.{fifo}
 use Rattle.swi_slots.specs.Slots.{Slots, kept_by, setting_of}
 use Rattle.swi_hart.specs.declared.hart.Control.{Control}
 use Rattle.swi_hart.specs.Matching.{Matches}
 use Rattle.swi_board.specs.Moments.{events}
 use Rattle.swi_board.specs.Transfers.{cost, here_of, spent_run}
 use Rattle.swi_chip.specs.declared.chip.Chip.{Chip}
+use Rattle.swi_chip.specs.Bounded.{fifo_few}
 use Rattle.swi_chip.specs.Service.{Enters, StandsFor}
 use Rattle.swi_chip_laws.specs.Running.{ChipRanSteps, ChipState, StandsAfter, moment_of}
 use Rattle.swi_chip_run_laws.specs.Calls.{GoesOnAt, ProcessorMoved, ProcessorState}
@@ -28,7 +28,7 @@ pub record EnteredAt (v : ImageData) (s : Slots) (f : Machine) (chip : Chip) (c 
   pub lists : List (List ℕ)
   pub stands : StandsFor next (λ p. v) words lists chip
   pub setting : setting_of next ≡ setting_of s
-  pub moves : kept_by next ≡ fifo (setting_of s) (kept_by s) v (indirect f.pc)
+  pub moves : kept_by next ≡ fifo_few chip.most (setting_of s) (kept_by s) v (indirect f.pc)
   pub matches : Matches v (kept_by next) f f c
 
 abbrev pub EntersRight : Type 0
@@ -49,20 +49,20 @@ pub record ProcessorStands (v : ImageData) (s : Slots) (ram : List ℕ) (n : ℕ
   pub lists : List (List ℕ)
   pub stands : StandsFor next (λ p. v) words lists (at n).chip
   pub setting : setting_of next ≡ setting_of s
-  pub after : StandsAfter v (events (fifo (setting_of s)) v n (moment_of v f (state_of s ram (at 0)))) (state_of s ram (at 0)) (state_of next words (at n))
+  pub after : StandsAfter v (events (fifo_few (at 0).chip.most (setting_of s)) v n (moment_of v f (state_of s ram (at 0)))) (state_of s ram (at 0)) (state_of next words (at n))
 
 abbrev pub ProcessorFollows : Type 0
 ProcessorFollows = (v : ImageData) (s : Slots) (ram : List ℕ) (lists : List (List ℕ)) (n : ℕ) (f : Machine) (at : ℕ → ProcessorState) → StandsFor s (λ p. v) ram lists (at 0).chip →
     IsProcessorRun v s n f at → ProcessorStands v s ram n f at
 
--- Behind as many as k steps of the flat machine cost, these were made, and the record has moved on by the slots' policy.
+-- Behind as many as k steps of the flat machine cost, these were made, and the record has moved on by the slots' policy with the chip's bound.
 pub record ProcessorRan (v : ImageData) (s : Slots) (ram : List ℕ) (k : ℕ) (f : Machine) (old new : ProcessorState) : Type 0 where
   pub next : Slots
   pub words : List ℕ
   pub lists : List (List ℕ)
   pub stands : StandsFor next (λ p. v) words lists new.chip
   pub setting : setting_of next ≡ setting_of s
-  pub ran : ChipRanSteps (fifo (setting_of s)) v k f (state_of s ram old) (state_of next words new)
+  pub ran : ChipRanSteps (fifo_few old.chip.most (setting_of s)) v k f (state_of s ram old) (state_of next words new)
 
 abbrev pub ProcessorRunsInSteps : Type 0
 ProcessorRunsInSteps = (v : ImageData) (s : Slots) (ram : List ℕ) (lists : List (List ℕ)) (n k : ℕ) (f : Machine) (at : ℕ → ProcessorState) → StandsFor s (λ p. v) ram lists (at 0).chip →

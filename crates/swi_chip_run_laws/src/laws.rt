@@ -1,6 +1,7 @@
 //! The laws as a function that does nothing.
 #![tactic(auto)]
 
+ghost use Rattle.swi_chip.specs.Bounded.{BoundsNothing, KeepsBound};
 ghost use Rattle.swi_chip_run_laws.specs.Files.{RunsFromFile};
 ghost use Rattle.swi_chip_run_laws.specs.Runs.{EntersRight, ProcessorFollows, ProcessorRunsInSteps};
 
@@ -22,4 +23,13 @@ pub fn laws_of_processors()
 /// steps cost the processor stands behind these, with a record that began with nothing.
 pub fn laws_of_files()
     ensures { RunsFromFile }
+{}
+
+/// Laws of the policy with a bound on the links into a block, for who reads them; it does nothing.
+///
+/// No more links than the bound lead into a block, if none did before a transfer. Where the bound is at least the number of
+/// the slots' words, the policy is that of the slots, and nothing is refused.
+pub fn laws_of_bounds()
+    ensures keeps { KeepsBound }
+    ensures nothing { BoundsNothing }
 {}

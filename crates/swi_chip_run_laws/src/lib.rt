@@ -3,4 +3,4 @@
 
 mod laws;
 
-pub use laws::{laws_of_files, laws_of_processors};
+pub use laws::{laws_of_bounds, laws_of_files, laws_of_processors};
