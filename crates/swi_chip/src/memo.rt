@@ -10,7 +10,9 @@ pub fn empty(memo: &mut [u32])
     requires { length memo.old ≡ 17 }
     ensures { HasNone memo.new }
 {
-    memo.fill(0);
+    for e in 0..17 {
+        memo[e] = 0;
+    }
     memo[1] = 4;
 }
 

@@ -138,18 +138,18 @@ fn fill(chip: &mut Chip<'_>, block: u32) -> u32
 
 /// The place of the text word at an address.
 #[inline(always)]
-fn place(places: &[u32], base: u32, text_bytes: u32, target: u32) -> Option<(u32, u32)>
-    requires text { text_bytes ≡ 4 * length places.now }
-    ensures { (v : ImageData) (ends : List ℕ) → IsImage v → HasTables v base places.now ends → result ≡ place_of v target }
+fn place(chip: &Chip<'_>, target: u32) -> Option<(u32, u32)>
+    requires text { chip.now.text_bytes ≡ 4 * length chip.now.places.now }
+    ensures { (v : ImageData) (ends : List ℕ) → IsImage v → HasTables v chip.now.base chip.now.places.now ends → result ≡ place_of v target }
 {
-    let distance = target.wrapping_sub(base);
+    let distance = target.wrapping_sub(chip.base);
     if distance % 4 != 0 {
         return None;
     }
-    if distance >= text_bytes {
+    if distance >= chip.text_bytes {
         return None;
     }
-    let place = places[(distance / 4) as usize];
+    let place = chip.places[(distance / 4) as usize];
     Some((place / 0x2000, place % 0x400))
 }
 
@@ -184,7 +184,7 @@ pub fn enter(chip: &mut Chip<'_>, target: u32) -> u32
     ensures served { Enters chip.old chip.new target result }
     ensures stays { StaysPut chip.old chip.new }
 {
-    let Some((block, offset)) = place(chip.places, chip.base, chip.text_bytes, target) else {
+    let Some((block, offset)) = place(chip, target) else {
         return NO_TEXT;
     };
     let mark = u32::from(chip.marks[block as usize]);
@@ -252,7 +252,7 @@ pub fn cross(chip: &mut Chip<'_>, at: u32, target: u32) -> u32
     ensures served { Crosses chip.old chip.new at target result }
     ensures stays { StaysPut chip.old chip.new }
 {
-    let Some((block, offset)) = place(chip.places, chip.base, chip.text_bytes, target) else {
+    let Some((block, offset)) = place(chip, target) else {
         return NO_TEXT;
     };
     let mark = u32::from(chip.marks[block as usize]);
