@@ -1,5 +1,5 @@
 -- What a bound on the links into a block refuses.
-use Rattle.std.proofs.Common.{◌≡◌, ℕ, zero, suc, ◌+◌, ◌*◌, ◌/◌, ◌%◌, ◌<◌, ◌≤◌, ◌==◌, ◌&&◌, Bool, true, false, List, [], ◌∷◌, length, filter, cond, nat_le, nat_lt, slice_index, Option, Some, None, if◌then◌else◌, arith, refl, sym, ◌∙◌, ap, subst, inl, inr, add-one}
+use Rattle.std.proofs.Common.{◌≡◌, ℕ, zero, suc, ◌+◌, ◌*◌, ◌/◌, ◌%◌, ◌<◌, ◌≤◌, ◌==◌, ◌&&◌, Bool, true, false, List, [], ◌∷◌, length, filter, cond, nat_le, nat_lt, slice_index, Option, Some, None, if◌then◌else◌, arith, refl, sym, ◌∙◌, ap, subst, inl, inr}
 use Rattle.std.proofs.lemmas.Bool.{and_left, cases_Bool, cases_lt, both_ways, cases_eq, ltb-true}
 use Rattle.std.proofs.lemmas.Bool.Decides.{nat_tests}
 use Rattle.swi_image.specs.Format.{ImageData}
@@ -7,7 +7,7 @@ use Rattle.swi_image.specs.Place.{place_of}
 use Rattle.std.proofs.lemmas.Nat.{row_fits}
 use Rattle.swi_rom.specs.Coherent.{IsExit}
 use Rattle.swi_rom.specs.Collected.{collected, length_collected, length_with, passes, passing}
-use Rattle.swi_rom.specs.Policy.{counted, evicted, first_of, is_kept, is_over_link, is_placed, linked, served_by, served_outside, served_over_link, went, with_link}
+use Rattle.swi_rom.specs.Policy.{counted, evicted, first_of, is_kept, is_placed, linked, served_by, served_outside, served_over_link, went, with_link}
 use Rattle.swi_rom.specs.Record.{Link, Placement, Record, Transfer, direct, indirect, is_linked, reaches, target_of}
 use Rattle.swi_rom.specs.Service.{Setting}
 use Rattle.swi_slots.specs.Fifo.{appended, arrived, fifo}
@@ -17,7 +17,7 @@ use Rattle.swi_slots.specs.SlotLinks.{link_here, word_is}
 use Rattle.swi_slots.specs.Slots.{Slots, kept_by, link_at, links_of, setting_of}
 use Rattle.swi_slots.specs.Sound.{LinkStands, SlotsServe}
 use Rattle.swi_slots.proofs.Policy.{arrived_forward}
-use Rattle.swi_chip.specs.Bounded.{BoundsNothing, IsBounded, KeepsBound, fifo_few, has_most, is_refused, leading_into, makes_link}
+use Rattle.swi_chip.specs.Bounded.{BoundsNothing, IsBounded, KeepsBound, fifo_few, has_most, is_refused, leading_into}
 
 -- ---- where nothing is refused
 

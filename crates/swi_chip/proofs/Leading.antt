@@ -1,11 +1,10 @@
 -- A slot's count is that of the links into its block.
-use Rattle.std.proofs.Common.{◌≡◌, ℕ, ◌+◌, ◌-◌, ◌*◌, ◌/◌, ◌%◌, ◌^◌, ◌<◌, ◌≤◌, ◌==◌, ◌&&◌, Bool, true, false, List, length, filter, nat_lt, slice_index, Some, None, if◌then◌else◌, arith, refl, sym, ◌∙◌, ap, subst, inl, inr}
+use Rattle.std.proofs.Common.{◌≡◌, ℕ, ◌+◌, ◌*◌, ◌/◌, ◌%◌, ◌^◌, ◌<◌, ◌≤◌, ◌==◌, ◌&&◌, Bool, true, false, List, length, filter, nat_lt, slice_index, Some, None, if◌then◌else◌, arith, refl, sym, ◌∙◌, ap, subst, inl, inr}
 use Rattle.std.proofs.lemmas.Bool.{cases_eq, ltb-true, ltb-false, eq-eqb, ne_eqb, eqb-true}
 use Rattle.swi_rom.specs.Collected.{length_collected, passes}
 use Rattle.swi_rom.specs.Policy.{leads_to}
 use Rattle.swi_rom.specs.Record.{Link}
 use Rattle.swi_links.specs.Chains.{Has}
-use Rattle.swi_slots.specs.Coheres.{target_owner}
 use Rattle.swi_slots.specs.Keys.{Images, key_of, key_number, key_owner, number_of, owner_of}
 use Rattle.swi_slots.specs.SlotLinks.{here_of_word, link_here, link_of, word_is}
 use Rattle.swi_slots.specs.Slots.{Slots, kept_by, link_at, links_of}

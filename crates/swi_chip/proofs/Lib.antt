@@ -17,3 +17,7 @@ pub mod Stands
 pub mod Counting
 pub mod Leading
 pub mod Bounding
+mod Fewer
+mod Unlinking
+mod Calling
+pub mod Repeating

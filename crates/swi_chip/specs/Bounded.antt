@@ -1,6 +1,6 @@
 -- The policy of a service that bounds the links into a block: first in, first out, but that a transfer whose link the bound refuses is served
 -- as an entry, so that its exit stays one.
-use Rattle.std.specs.Prelude.{◌≡◌, ◌≤◌, ℕ, ◌*◌, ◌==◌, ◌&&◌, Bool, true, false, List, length, filter, nat_le, nat_lt, Option, Some, None, if◌then◌else◌}
+use Rattle.std.specs.Prelude.{◌≡◌, ◌≤◌, ℕ, ◌*◌, ◌==◌, ◌&&◌, Bool, false, List, length, filter, nat_le, nat_lt, Option, Some, None, if◌then◌else◌}
 use Rattle.swi_image.specs.Format.{ImageData}
 use Rattle.swi_image.specs.Place.{place_of}
 use Rattle.swi_rom.specs.Record.{Record, Transfer, indirect, target_of}

@@ -14,3 +14,4 @@ pub mod Standing
 pub mod Leaving
 pub mod Replacing
 pub mod Bounded
+pub mod Repeated

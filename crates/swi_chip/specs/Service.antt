@@ -1,15 +1,17 @@
 -- What a service on a chip stands for: a service with slots of one program, its image, and the words of its ram.
-use Rattle.std.specs.Prelude.{◌≡◌, ◌⊎◌, ℕ, ◌+◌, ◌-◌, ◌*◌, ◌%◌, ◌/◌, ◌^◌, ◌<◌, ◌≤◌, Bool, true, false, List, length, slice_index, slice_set, Option, Some, None, nat_lt, if◌then◌else◌}
+use Rattle.std.specs.Prelude.{◌≡◌, ◌⊎◌, ℕ, ◌+◌, ◌-◌, ◌*◌, ◌%◌, ◌/◌, ◌^◌, ◌<◌, ◌≤◌, ◌==◌, ◌&&◌, Bool, true, false, List, length, slice_index, slice_set, Option, Some, None, nat_lt, if◌then◌else◌}
 use Rattle.swi_image.specs.Format.{ImageData}
 use Rattle.swi_image.specs.Checks.{block_of}
 use Rattle.swi_image.specs.Place.{length_at, place_of}
 use Rattle.swi_outside.specs.CacheRam.{RamState}
 use Rattle.swi_rom.specs.Coherent.{ExitAt, TargetAt}
-use Rattle.swi_rom.specs.Record.{IsJump, Placed, Transfer, direct, ebreak, indirect, target_of}
+use Rattle.swi_rom.specs.Policy.{counted}
+use Rattle.swi_rom.specs.Record.{IsJump, Placed, Transfer, direct, ebreak, exit_among, indirect, target_of}
 use Rattle.swi_rom.specs.declared.rom.Counts.{Counts}
 use Rattle.swi_slots.specs.Arrived.{Arrived}
+use Rattle.swi_slots.specs.Fifo.{arrived}
 use Rattle.swi_slots.specs.Keys.{Images, key_of}
-use Rattle.swi_slots.specs.Slots.{Slots, kept_by, setting_of}
+use Rattle.swi_slots.specs.Slots.{Slots, kept_by, links_of, setting_of}
 use Rattle.swi_slots.specs.Sound.{SlotsServe}
 use Rattle.swi_slots.specs.Steps.{IsAbsent, can_link, counted_slots}
 use Rattle.swi_chip.specs.declared.chip.Chip.{Chip}
@@ -194,13 +196,67 @@ pub record ChipServed (s : Slots) (vs : Images) (t : Transfer) (answer : ℕ) (o
   pub bound : CountsRefused (is_refused old.most (setting_of s) (kept_by s) (vs s.turn) t) old c
   pub answers : AnswersAt (place_of (vs s.turn) (target_of t)) s next (vs s.turn) c (target_of t) answer
 
+-- what the caller has set stays
+pub record StaysPut (old new : Chip) : Type 0 where
+  pub cache_at : new.cache_at ≡ old.cache_at
+  pub most : new.most ≡ old.most
+
+-- how many links one call undoes before the caller may let an interrupt in
+abbrev pub portion : ℕ
+portion = 8
+
+-- the slot that is filled next has a block, and more links than that lead into it
+abbrev pub is_crowded : Chip → Bool
+is_crowded c = (c.filled == c.slots) && nat_lt portion (slice_index c.links.now c.next)
+
+-- a transfer to a place waits where its block stands in no slot, and the next one is crowded
+abbrev pub must_wait : Chip → Option (ℕ × ℕ) → Bool
+must_wait c None = false
+must_wait c (Some p) = (slice_index c.marks.now p.0 == 0) && is_crowded c
+
+-- a service with other links, and so many undone in all
+abbrev pub with_links : Slots → List ℕ → ℕ → Slots
+with_links s targets unlinks = record s { targets = targets; counts = record s.counts { unlinks = unlinks } }
+
+-- So many links into the slot that is filled next were undone: the chip stands for the same service without them, and a block that stands
+-- in no slot arrives as it would have before.
+pub record HasFewer (k : ℕ) (s : Slots) (vs : Images) (old new : Chip) : Type 0 where
+  pub targets : List ℕ
+  pub unlinks : ℕ
+  pub words : List ℕ
+  pub lists : List (List ℕ)
+  pub stands : StandsFor (with_links s targets unlinks) vs words lists new
+  pub arrives : (v : ImageData) (b : ℕ) → IsAbsent s (key_of s.turn b) → arrived (setting_of s) v (counted (kept_by (with_links s targets unlinks))) b ≡ arrived (setting_of s) v (counted (kept_by s)) b
+  pub among : (p b o : ℕ) → exit_among (links_of (with_links s targets unlinks)) p b o ≡ true → exit_among (links_of s) p b o ≡ true
+  pub fewer : slice_index new.links.now new.next + k ≡ slice_index old.links.now old.next
+
+-- A portion of links was undone: the chip stands for the same service without them, and the transfer comes to the same by its policy.
+pub record ChipWaits (s : Slots) (vs : Images) (t : Transfer) (old new : Chip) : Type 0 where
+  pub targets : List ℕ
+  pub unlinks : ℕ
+  pub words : List ℕ
+  pub lists : List (List ℕ)
+  pub stands : StandsFor (with_links s targets unlinks) vs words lists new
+  pub moves : fifo_few old.most (setting_of s) (kept_by (with_links s targets unlinks)) (vs s.turn) t ≡ fifo_few old.most (setting_of s) (kept_by s) (vs s.turn) t
+  pub refuses : is_refused old.most (setting_of s) (kept_by (with_links s targets unlinks)) (vs s.turn) t ≡ is_refused old.most (setting_of s) (kept_by s) (vs s.turn) t
+  -- the links are some of those that were
+  pub among : (p b o : ℕ) → exit_among (links_of (with_links s targets unlinks)) p b o ≡ true → exit_among (links_of s) p b o ≡ true
+  pub fewer : slice_index new.links.now new.next + portion ≡ slice_index old.links.now old.next
+  pub bound : CountsRefused false old new
+  pub cache_at : new.cache_at ≡ old.cache_at
+
+-- the call is to be made again, or the transfer was served
+pub record Called (s : Slots) (vs : Images) (t : Transfer) (old new : Chip) (answer : ℕ) : Type 0 where
+  pub waits : must_wait old (place_of (vs s.turn) (target_of t)) ≡ true → (answer ≡ again) × ChipWaits s vs t old new
+  pub serves : must_wait old (place_of (vs s.turn) (target_of t)) ≡ false → ChipServed s vs t answer old new
+
 -- `enter` and `cross`, for whatever service the chip stands for
 abbrev pub Enters : Chip → Chip → ℕ → ℕ → Type 0
-Enters old new target answer = (s : Slots) (vs : Images) (ram : List ℕ) (lists : List (List ℕ)) → StandsFor s vs ram lists old → ChipServed s vs (indirect target) answer old new
+Enters old new target answer = (s : Slots) (vs : Images) (ram : List ℕ) (lists : List (List ℕ)) → StandsFor s vs ram lists old → Called s vs (indirect target) old new answer
 
 abbrev pub Crosses : Chip → Chip → ℕ → ℕ → ℕ → Type 0
 Crosses old new at target answer = (s : Slots) (vs : Images) (ram : List ℕ) (lists : List (List ℕ)) → StandsFor s vs ram lists old → ExitAt (vs s.turn) (kept_by s) at target →
-    (b o f : ℕ) → Placed (kept_by s) b f → o < length_at (vs s.turn) b → at ≡ f + o → ChipServed s vs (direct b o target) answer old new
+    (b o f : ℕ) → Placed (kept_by s) b f → o < length_at (vs s.turn) b → at ≡ f + o → Called s vs (direct b o target) old new answer
 
 -- the same, where the target's block, with an offset, stands in no slot
 pub record CanEnterNew (c : Chip) (block offset : ℕ) : Type 0 where
@@ -217,11 +273,11 @@ pub record CanCrossNew (c : Chip) (at block offset : ℕ) : Type 0 where
   pub exit : ExitAt (some.vs some.s.turn) (kept_by some.s) at target
 
 abbrev pub EntersNew : Chip → Chip → ℕ → ℕ → ℕ → Type 0
-EntersNew old new block offset answer = (s : Slots) (vs : Images) (ram : List ℕ) (lists : List (List ℕ)) → StandsFor s vs ram lists old → (target : ℕ) → place_of (vs s.turn) target ≡ Some (block, offset) → ChipServed s vs (indirect target) answer old new
+EntersNew old new block offset answer = (s : Slots) (vs : Images) (ram : List ℕ) (lists : List (List ℕ)) → StandsFor s vs ram lists old → (target : ℕ) → place_of (vs s.turn) target ≡ Some (block, offset) → slice_index old.marks.now block ≡ 0 → Called s vs (indirect target) old new answer
 
 abbrev pub CrossesNew : Chip → Chip → ℕ → ℕ → ℕ → ℕ → Type 0
-CrossesNew old new at block offset answer = (s : Slots) (vs : Images) (ram : List ℕ) (lists : List (List ℕ)) → StandsFor s vs ram lists old → (target : ℕ) → place_of (vs s.turn) target ≡ Some (block, offset) → ExitAt (vs s.turn) (kept_by s) at target →
-    (b o f : ℕ) → Placed (kept_by s) b f → o < length_at (vs s.turn) b → at ≡ f + o → ChipServed s vs (direct b o target) answer old new
+CrossesNew old new at block offset answer = (s : Slots) (vs : Images) (ram : List ℕ) (lists : List (List ℕ)) → StandsFor s vs ram lists old → (target : ℕ) → place_of (vs s.turn) target ≡ Some (block, offset) → slice_index old.marks.now block ≡ 0 → ExitAt (vs s.turn) (kept_by s) at target →
+    (b o f : ℕ) → Placed (kept_by s) b f → o < length_at (vs s.turn) b → at ≡ f + o → Called s vs (direct b o target) old new answer
 
 -- what is counted at a miss, and at a service
 pub record CountedMiss (old new : ChipCounts) (evicts : Bool) (undone words : ℕ) : Type 0 where
@@ -242,10 +298,29 @@ pub record CountedService (old new : ChipCounts) (filled : ℕ) : Type 0 where
   pub copied : new.copied ≡ old.copied
   pub refused : new.refused ≡ old.refused
 
--- what the caller has set stays
-pub record StaysPut (old new : Chip) : Type 0 where
-  pub cache_at : new.cache_at ≡ old.cache_at
-  pub most : new.most ≡ old.most
+-- links into the slot that is filled next can be undone
+pub record CanUndo (c : Chip) : Type 0 where
+  pub some : IsSome c
+  pub full : c.filled ≡ c.slots
+  pub linked : 0 < slice_index c.links.now c.next
+
+pub record CanWait (c : Chip) : Type 0 where
+  pub some : IsSome c
+  pub crowded : is_crowded c ≡ true
+
+-- so many were, whatever service the chip stands for
+abbrev pub Undoes : ℕ → Chip → Chip → Type 0
+Undoes k old new = (s : Slots) (vs : Images) (ram : List ℕ) (lists : List (List ℕ)) → StandsFor s vs ram lists old → HasFewer k s vs old new
+
+-- what is counted at a link that is undone, where it counts
+pub record CountedUndone (old new : ChipCounts) (counts : Bool) : Type 0 where
+  pub services : new.services ≡ old.services
+  pub misses : new.misses ≡ old.misses
+  pub evictions : new.evictions ≡ old.evictions
+  pub links : new.links ≡ old.links
+  pub unlinks : new.unlinks ≡ (if counts then (old.unlinks + 1) % 2 ^ 32 else old.unlinks)
+  pub copied : new.copied ≡ old.copied
+  pub refused : new.refused ≡ old.refused
 
 -- the exit at an address of the cache
 pub record CanExit (c : Chip) (pc target : ℕ) : Type 0 where

@@ -11,11 +11,12 @@ ghost use Rattle.swi_slots.specs.Keys.{Images};
 ghost use Rattle.swi_chip.specs.Undone.{begin_in};
 ghost use Rattle.swi_chip.specs.Service.{CanCross, CanCrossNew, CanEnterNew, CanFill, CanLinkHere, CanLinkExit, CountsRefused, CountedMiss, CountedService, Crosses, CrossesNew, Enters, EntersNew, HasArrived, HasTables, IsSome, LinkedExit, Exits, CanExit, StandsFor, StaysPut, ToFill, ToLinkExit};
 
-use crate::answer::{DAMAGED, NO_TEXT};
+use crate::answer::{AGAIN, DAMAGED, NO_TEXT};
 use crate::chip::{Chip, ChipCounts};
 use crate::linking::link;
 use crate::memo;
 use crate::missing::miss;
+use crate::waiting::{crowded, undo_portion};
 
 /// Where a block's words begin in the row of the image's words.
 #[inline(always)]
@@ -169,6 +170,10 @@ fn enter_new(chip: &mut Chip<'_>, block: u32, offset: u32) -> u32
     ensures served { EntersNew chip.old chip.new block offset result }
     ensures stays { StaysPut chip.old chip.new }
 {
+    if crowded(chip) {
+        undo_portion(chip);
+        return AGAIN;
+    }
     count_service(&mut chip.counts, chip.filled);
     let mark = fill(chip, block);
     address(chip.cache_at, mark - 1 + offset)
@@ -234,6 +239,10 @@ fn cross_new(chip: &mut Chip<'_>, at: u32, block: u32, offset: u32) -> u32
     ensures served { CrossesNew chip.old chip.new at block offset result }
     ensures stays { StaysPut chip.old chip.new }
 {
+    if crowded(chip) {
+        undo_portion(chip);
+        return AGAIN;
+    }
     let row = chip.size.slot_of(at);
     let home = chip.blocks[row as usize];
     count_service(&mut chip.counts, chip.filled);

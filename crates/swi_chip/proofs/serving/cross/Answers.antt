@@ -1,5 +1,6 @@
 use Rattle.std.proofs.Common.{◌≡◌, ℕ, ◌+◌, ◌-◌, ◌/◌, slice_index, Some, arith, refl, sym, ◌∙◌}
 use Rattle.swi_image.specs.Place.{place_of}
+use Rattle.swi_chip.proofs.Calling.{called_hit, called_none}
 use Rattle.swi_chip.proofs.Entering.{hit_at, index_few, known_mark, mark_low, place_known}
 use Rattle.swi_chip.proofs.Crossing.{crossed_none, crossed_some, place_few, place_found, slot_found, to_link_exit}
 use Rattle.swi_chip.proofs.serving.cross.Goals as goal
@@ -9,7 +10,8 @@ place-requires c = record { text = c.requires.can.some.stands.numbers.text_is }
 
 pub returns-in_default-clause-served : goal.returns-in_default-clause-served
 returns-in_default-clause-served c = λ s vs ram lists k x b o f placed inside at_place.
-    crossed_none k b o c.args.target (sym (c.place.ensures (vs s.turn) c.args.chip.now.ends.now (k.serves.images s.turn) k.tables) ∙ c.in_default.is)
+    (let none = sym (c.place.ensures (vs s.turn) c.args.chip.now.ends.now (k.serves.images s.turn) k.tables) ∙ c.in_default.is in
+    called_none none (crossed_none k b o c.args.target none))
 
 pub bounds-chip-block : goal.bounds-chip-block
 bounds-chip-block c =
@@ -29,7 +31,7 @@ cross_new-requires c =
 
 pub returns-then-mark-eq0-clause-served : goal.returns-then-mark-eq0-clause-served
 returns-then-mark-eq0-clause-served c = λ s vs ram lists k x b o f placed inside at_place.
-    c.cross_new.ensures.served s vs ram lists k c.args.target (sym (c.place.ensures (vs s.turn) c.args.chip.now.ends.now (k.serves.images s.turn) k.tables) ∙ c.in-Some.is) x b o f placed inside at_place
+    c.cross_new.ensures.served s vs ram lists k c.args.target (sym (c.place.ensures (vs s.turn) c.args.chip.now.ends.now (k.serves.images s.turn) k.tables) ∙ c.in-Some.is) (sym c.from-mark.ensures ∙ c.if-mark-eq0.true) x b o f placed inside at_place
 
 pub slot_of-slot-requires : goal.slot_of-slot-requires
 slot_of-slot-requires c =
@@ -87,5 +89,6 @@ returns-clause-served c = λ s vs ram lists k x b o f placed inside at_place.
     let slot_is = c.slot_of-slot.ensures ∙ slot_found h in
     let to : ℕ = c.from-mark.result - 1 + c.in-Some.offset in
     let le = to_link_exit k c.args.at c.args.target x is h home c.slot_of-slot.result to refl slot_is (place_found h c.in-Some.offset) in
-    crossed_some k c.args.at c.args.target x is h (record { most = refl; refused = c.count_service.ensures.refused }) home c.slot_of-slot.result to c.link_here.new.chip refl slot_is (place_found h c.in-Some.offset) (c.link_here.ensures.linked h.next vs h.words h.lists home le refl) b o f placed inside at_place
-    c.address.result c.address.ensures c.link_here.ensures.stays.cache_at)
+    called_hit k c.in-Some.block c.in-Some.offset is (λ none. c.if-mark-eq0.false (c.from-mark.ensures ∙ none))
+    (crossed_some k c.args.at c.args.target x is h (record { most = refl; refused = c.count_service.ensures.refused }) home c.slot_of-slot.result to c.link_here.new.chip refl slot_is (place_found h c.in-Some.offset) (c.link_here.ensures.linked h.next vs h.words h.lists home le refl) b o f placed inside at_place
+    c.address.result c.address.ensures c.link_here.ensures.stays.cache_at))

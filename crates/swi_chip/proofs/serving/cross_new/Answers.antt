@@ -1,5 +1,7 @@
-use Rattle.std.proofs.Common.{ℕ, ◌+◌, ◌-◌, slice_index, ap, arith, refl, ◌∙◌}
+use Rattle.std.proofs.Common.{ℕ, ◌+◌, ◌-◌, slice_index, ap, arith, refl, sym, ◌∙◌}
+use Rattle.swi_rom.specs.Record.{direct}
 use Rattle.swi_chip.specs.Service.{HasArrived}
+use Rattle.swi_chip.proofs.Calling.{called_again, called_free, over_none}
 use Rattle.swi_chip.proofs.Entering.{index_few, mark_low, place_known, to_fill}
 use Rattle.swi_chip.proofs.Crossing.{crossed_some, exit_few, exit_low, mark_some, place_few, place_found, slot_found, to_link_exit}
 use Rattle.swi_chip.proofs.serving.cross_new.Goals as goal
@@ -66,7 +68,7 @@ address-requires c =
     index_few (c.fill-first.ensures.arrived k.s k.vs k.ram k.lists (to_fill k.stands c.args.block p.0 c.count_service.new.counts c.count_service.ensures x.absent)) x.target c.args.offset x.is)
 
 pub returns-clause-served : goal.returns-clause-served
-returns-clause-served c = λ s vs ram lists k target is x b o f placed inside at_place.
+returns-clause-served c = λ s vs ram lists k target is absent x b o f placed inside at_place.
     (let p = place_known (vs s.turn) target c.args.block c.args.offset (k.serves.images s.turn) is in
     let h : HasArrived s vs ram c.args.block c.fill-first.result c.fill-first.new.chip = c.fill-first.ensures.arrived s vs ram lists (to_fill k c.args.block p.0 c.count_service.new.counts c.count_service.ensures c.requires.can.absent) in
     let home : ℕ = slice_index c.args.chip.now.blocks.now c.slot_of-row.result in
@@ -74,5 +76,13 @@ returns-clause-served c = λ s vs ram lists k target is x b o f placed inside at
     let slot_is = c.slot_of-slot.ensures ∙ slot_found h in
     let to : ℕ = c.fill-first.result - 1 + c.args.offset in
     let le = to_link_exit k c.args.at target x is h home c.slot_of-slot.result to home_is slot_is (place_found h c.args.offset) in
-    crossed_some k c.args.at target x is h (record { most = c.fill-first.ensures.bound.most; refused = c.fill-first.ensures.bound.refused ∙ c.count_service.ensures.refused }) home c.slot_of-slot.result to c.link_exit.new.chip home_is slot_is (place_found h c.args.offset) (c.link_exit.ensures.linked h.next vs h.words h.lists le) b o f placed inside at_place
-    c.address.result c.address.ensures c.link_exit.ensures.stays.cache_at)
+    called_free k c.args.block c.args.offset (direct b o target) is absent (sym c.crowded.ensures ∙ c.if-crowded.false)
+    (crossed_some k c.args.at target x is h (record { most = c.fill-first.ensures.bound.most; refused = c.fill-first.ensures.bound.refused ∙ c.count_service.ensures.refused }) home c.slot_of-slot.result to c.link_exit.new.chip home_is slot_is (place_found h c.args.offset) (c.link_exit.ensures.linked h.next vs h.words h.lists le) b o f placed inside at_place
+    c.address.result c.address.ensures c.link_exit.ensures.stays.cache_at))
+
+pub undo_portion-requires : goal.undo_portion-requires
+undo_portion-requires c = (let x = c.requires.can in record { can = record { some = x.some; crowded = sym c.crowded.ensures ∙ c.if-crowded.true } })
+
+pub returns-then-crowded-clause-served : goal.returns-then-crowded-clause-served
+returns-then-crowded-clause-served c = λ s vs ram lists k target is absent x b o f placed inside at_place.
+    called_again k c.args.block c.args.offset (direct b o target) is absent (over_none k c.args.at target b o f x placed inside at_place) (sym c.crowded.ensures ∙ c.if-crowded.true) (c.undo_portion.ensures.undone s vs ram lists k) c.undo_portion.ensures.bound c.undo_portion.ensures.stays.cache_at

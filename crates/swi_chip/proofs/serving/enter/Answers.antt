@@ -1,5 +1,6 @@
 use Rattle.std.proofs.Common.{◌≡◌, Some, arith, refl, sym, ◌∙◌}
 use Rattle.swi_image.specs.Place.{place_of}
+use Rattle.swi_chip.proofs.Calling.{called_hit, called_none}
 use Rattle.swi_chip.proofs.Entering.{entered_none, entered_some, hit_at, index_few, known_mark, mark_low, place_known}
 use Rattle.swi_chip.proofs.serving.enter.Goals as goal
 
@@ -7,7 +8,9 @@ pub place-requires : goal.place-requires
 place-requires c = record { text = c.requires.some.stands.numbers.text_is }
 
 pub returns-in_default-clause-served : goal.returns-in_default-clause-served
-returns-in_default-clause-served c = λ s vs ram lists k. entered_none k c.args.target (sym (c.place.ensures (vs s.turn) c.args.chip.now.ends.now (k.serves.images s.turn) k.tables) ∙ c.in_default.is)
+returns-in_default-clause-served c = λ s vs ram lists k.
+    (let none = sym (c.place.ensures (vs s.turn) c.args.chip.now.ends.now (k.serves.images s.turn) k.tables) ∙ c.in_default.is in
+    called_none none (entered_none k c.args.target none))
 
 pub bounds-chip-block : goal.bounds-chip-block
 bounds-chip-block c =
@@ -24,7 +27,7 @@ enter_new-requires c =
 
 pub returns-then-mark-eq0-clause-served : goal.returns-then-mark-eq0-clause-served
 returns-then-mark-eq0-clause-served c = λ s vs ram lists k.
-    c.enter_new.ensures.served s vs ram lists k c.args.target (sym (c.place.ensures (vs s.turn) c.args.chip.now.ends.now (k.serves.images s.turn) k.tables) ∙ c.in-Some.is)
+    c.enter_new.ensures.served s vs ram lists k c.args.target (sym (c.place.ensures (vs s.turn) c.args.chip.now.ends.now (k.serves.images s.turn) k.tables) ∙ c.in-Some.is) (sym c.from-mark.ensures ∙ c.if-mark-eq0.true)
 
 pub overflow_add-mark : goal.overflow_add-mark
 overflow_add-mark c =
@@ -48,4 +51,5 @@ pub returns-clause-served : goal.returns-clause-served
 returns-clause-served c = λ s vs ram lists k.
     (let is : place_of (vs s.turn) c.args.target ≡ Some (c.in-Some.block, c.in-Some.offset) = sym (c.place.ensures (vs s.turn) c.args.chip.now.ends.now (k.serves.images s.turn) k.tables) ∙ c.in-Some.is in
     let p = place_known (vs s.turn) c.args.target c.in-Some.block c.in-Some.offset (k.serves.images s.turn) is in
-    entered_some {s = s} {vs = vs} {ram = ram} {c = c.args.chip.now} (record { most = refl; refused = c.count_service.ensures.refused }) c.args.target c.in-Some.block c.in-Some.offset _ is (hit_at k c.in-Some.block p.0 c.from-mark.result c.from-mark.ensures c.count_service.new.counts c.count_service.ensures c.if-mark-eq0.false) c.address.result c.address.ensures)
+    called_hit k c.in-Some.block c.in-Some.offset is (λ none. c.if-mark-eq0.false (c.from-mark.ensures ∙ none))
+    (entered_some {s = s} {vs = vs} {ram = ram} {c = c.args.chip.now} (record { most = refl; refused = c.count_service.ensures.refused }) c.args.target c.in-Some.block c.in-Some.offset _ is (hit_at k c.in-Some.block p.0 c.from-mark.result c.from-mark.ensures c.count_service.new.counts c.count_service.ensures c.if-mark-eq0.false) c.address.result c.address.ensures))
