@@ -3,7 +3,7 @@
 
 /// The target is no text word.
 pub const NO_TEXT: u32 = 1;
-/// Links were undone, and there are more: the caller may let an interrupt in, and makes the same call again.
+/// Eight links were undone, and there are more: the caller may let an interrupt in, and makes the same call again.
 pub const AGAIN: u32 = 2;
 /// The address is none of the cache.
 pub const DAMAGED: u32 = 3;

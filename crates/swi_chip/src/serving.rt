@@ -181,7 +181,8 @@ fn enter_new(chip: &mut Chip<'_>, block: u32, offset: u32) -> u32
 
 /// Enters the cache at the place of a text address, for a jump over a register: the address of that place. It is
 /// [`NO_TEXT`] exactly where no text word stands at the text address, and then nothing has changed. A block that stands in
-/// no slot is copied into the next one, whose block leaves, and the links into that become exits again.
+/// no slot is copied into the next one, whose block leaves, and the links into that become exits again. Where these are more
+/// than eight, eight become exits, and the answer is [`AGAIN`]: the caller makes the same call again.
 ///
 /// The policy is first in, first out, and all that the chip keeps moves on as that of `swi_slots`.
 pub fn enter(chip: &mut Chip<'_>, target: u32) -> u32
