@@ -9,8 +9,9 @@ use Rattle.swi_slots.specs.Keys.{Images}
 use Rattle.swi_slots.specs.Slots.{Slots, kept_by, links_of, queue_of, setting_of}
 use Rattle.swi_chip.specs.declared.chip.Chip.{Chip}
 use Rattle.swi_chip.specs.Bounded.{fifo_few, is_refused}
-use Rattle.swi_chip.specs.Repeated.{EntersRepeated, ExitsRepeated}
-use Rattle.swi_chip.specs.Service.{AnswersAt, Called, ChipServed, ChipWaits, Enters, Exits, StandsFor, again, far_in, must_wait, portion, with_links}
+use Rattle.swi_chip.specs.Leaving.{IsExitAt, Leaves}
+use Rattle.swi_chip.specs.Repeated.{EntersRepeated, ExitsRepeated, LeavesRepeated, LeftAtLast, Repeats, StandsOn}
+use Rattle.swi_chip.specs.Service.{AnswersAt, Called, ChipServed, ChipWaits, Enters, Exits, StandsFor, again, far_in, misaligned, must_wait, portion, with_links}
 
 -- an answer of a call that served is none to make it again
 no_again : (p : Option (ℕ × ℕ)) (s next : Slots) (v : ImageData) (c : Chip) (target answer : ℕ) → c.cache_at % 4 ≡ 0 → AnswersAt p s next v c target answer → answer ≡ again → ⊥
@@ -61,19 +62,75 @@ behind {s} {vs} {t} {answer} {a} {b} {c} must w q = record {
 
 -- ---- entries
 
+-- at first, and behind a portion
+on_first : {s : Slots} {vs : Images} {ram : List ℕ} {lists : List (List ℕ)} {c : Chip} → StandsFor s vs ram lists c → StandsOn s vs c c
+on_first {s} {vs} {ram} {lists} {c} k = record { targets = s.targets; unlinks = s.counts.unlinks; words = ram; lists = lists; stands = k; among = λ p b o h. h; cache_at = refl }
+
+on_more : {s : Slots} {vs : Images} {t : Transfer} {a b c : Chip} → (w : ChipWaits s vs t a b) → StandsOn (with_links s w.targets w.unlinks) vs b c → StandsOn s vs a c
+on_more {s} {vs} {t} {a} {b} {c} w x = record {
+  targets = x.targets;
+  unlinks = x.unlinks;
+  words = x.words;
+  lists = x.lists;
+  stands = x.stands;
+  among = λ p y o h. w.among p y o (x.among p y o h);
+  cache_at = x.cache_at ∙ w.cache_at;
+}
+
 entered_on : (n : ℕ) (s : Slots) (vs : Images) (ram : List ℕ) (lists : List (List ℕ)) (at : ℕ → Chip) (new : Chip) (target answer : ℕ) → StandsFor s vs ram lists (at 0) →
-    ((j : ℕ) → j < n → Enters (at j) (at (suc j)) target again) → Enters (at n) new target answer → (answer ≡ again → ⊥) → ChipServed s vs (indirect target) answer (at 0) new × (portion * n ≤ slice_index (at 0).links.now (at 0).next)
-entered_on zero s vs ram lists at new target answer k waits last ends = (called_serves (last s vs ram lists k) ends, omega arith)
+    ((j : ℕ) → j < n → Enters (at j) (at (suc j)) target again) → Enters (at n) new target answer → (answer ≡ again → ⊥) → LeftAtLast s vs (at 0) (at n) new target answer n
+entered_on zero s vs ram lists at new target answer k waits last ends = record { served = called_serves (last s vs ram lists k) ends; few = omega arith; on = on_first k }
 entered_on (suc n) s vs ram lists at new target answer k waits last ends =
     let q = called_waits (waits 0 (omega arith) s vs ram lists k) in
     let w = q.1 in
     let rest = entered_on n (with_links s w.targets w.unlinks) vs w.words w.lists (λ j. at (suc j)) new target answer w.stands (λ j lt. waits (suc j) (omega (arith, lt))) last ends in
-    (behind q.0 w rest.0, (let e = w.fewer in let f = rest.1 in omega (arith, e, f)))
+    record { served = behind q.0 w rest.served; few = (let e = w.fewer in let f = rest.few in omega (arith, e, f)); on = on_more w rest.on }
 
 pub enters_repeated : EntersRepeated
 enters_repeated s vs ram lists old new target answer k r =
     let z = entered_on r.times s vs ram lists r.at new target answer (subst (λ (c : Chip). StandsFor s vs ram lists c) (sym r.first) k) r.waits r.last r.ends in
-    (subst (λ (c : Chip). ChipServed s vs (indirect target) answer c new) r.first z.0, subst (λ (c : Chip). portion * r.times ≤ slice_index c.links.now c.next) r.first z.1)
+    (subst (λ (c : Chip). ChipServed s vs (indirect target) answer c new) r.first z.served, subst (λ (c : Chip). portion * r.times ≤ slice_index c.links.now c.next) r.first z.few)
+
+-- a JALR's calls are entries
+exit_at_still : {s : Slots} {vs : Images} {ram : List ℕ} {lists : List (List ℕ)} {a c : Chip} {t : Transfer} (pc : ℕ) → StandsFor s vs ram lists a → (w : ChipWaits s vs t a c) → IsExitAt a pc → IsExitAt c pc
+exit_at_still {s} {vs} {ram} {lists} {a} {c} {t} pc k w x =
+    let far : far_in c pc ≡ far_in a pc = ap (λ (n : ℕ). (pc + (2 ^ 32 - n)) % 2 ^ 32) w.cache_at in
+    let bytes : c.cache_bytes ≡ a.cache_bytes = w.stands.numbers.bytes_are ∙ sym k.numbers.bytes_are in
+    omega (arith, far, bytes, x)
+
+record AreEntries (n : ℕ) (at : ℕ → Chip) (new : Chip) (target answer : ℕ) : Type 0 where
+  waits : (j : ℕ) → j < n → Enters (at j) (at (suc j)) target again
+  last : Enters (at n) new target answer
+
+more_entries : (n : ℕ) (at : ℕ → Chip) (new : Chip) (target answer : ℕ) → Enters (at 0) (at 1) target again → AreEntries n (λ j. at (suc j)) new target answer → (j : ℕ) → j < suc n → Enters (at j) (at (suc j)) target again
+more_entries n at new target answer e r zero lt = e
+more_entries n at new target answer e r (suc j) lt = r.waits j (omega (arith, lt))
+
+are_entries : (n : ℕ) (s : Slots) (vs : Images) (ram : List ℕ) (lists : List (List ℕ)) (at : ℕ → Chip) (new : Chip) (pc target answer : ℕ) → StandsFor s vs ram lists (at 0) → IsExitAt (at 0) pc → target % 4 ≡ 0 →
+    ((j : ℕ) → j < n → Leaves (at j) (at (suc j)) pc target again) → Leaves (at n) new pc target answer → AreEntries n at new target answer
+are_entries zero s vs ram lists at new pc target answer k x four waits last = record { waits = λ j lt. absurd (omega (arith, lt)); last = last.enters x four }
+are_entries (suc n) s vs ram lists at new pc target answer k x four waits last =
+    let e : Enters (at 0) (at 1) target again = (waits 0 (omega arith)).enters x four in
+    let w = (called_waits (e s vs ram lists k)).1 in
+    let rest = are_entries n (with_links s w.targets w.unlinks) vs w.words w.lists (λ j. at (suc j)) new pc target answer w.stands (exit_at_still pc k w x) four (λ j lt. waits (suc j) (omega (arith, lt))) last in
+    record { waits = more_entries n at new target answer e rest; last = rest.last }
+
+pub leaves_repeated : LeavesRepeated
+leaves_repeated s vs ram lists old new pc target answer k x four r =
+    let k' = subst (λ (c : Chip). StandsFor s vs ram lists c) (sym r.first) k in
+    let e = are_entries r.times s vs ram lists r.at new pc target answer k' (subst (λ (c : Chip). IsExitAt c pc) (sym r.first) x) four r.waits r.last in
+    subst (λ (c : Chip). LeftAtLast s vs c (r.at r.times) new target answer r.times) r.first (entered_on r.times s vs ram lists r.at new target answer k' e.waits e.last r.ends)
+
+-- to a misaligned target there is one call, and nothing changes
+pub leaves_refused : (old new : Chip) (pc target answer : ℕ) → IsExitAt old pc → (target % 4 ≡ 0 → ⊥) → (r : Repeats (λ a b x. Leaves a b pc target x) old new answer) → (answer ≡ misaligned) × (new ≡ old)
+leaves_refused old new pc target answer x odd r = by r.times r.waits r.last
+  where
+    exit : IsExitAt (r.at 0) pc
+    exit = subst (λ (c : Chip). IsExitAt c pc) (sym r.first) x
+
+    by : (n : ℕ) → ((j : ℕ) → j < n → Leaves (r.at j) (r.at (suc j)) pc target again) → Leaves (r.at n) new pc target answer → (answer ≡ misaligned) × (new ≡ old)
+    by zero waits last = (let q = last.refuses exit odd in (q.0, q.1 ∙ r.first))
+    by (suc n) waits last = absurd (let q = ((waits 0 (omega arith)).refuses exit odd).0 in omega (arith, q))
 
 -- ---- exits
 
