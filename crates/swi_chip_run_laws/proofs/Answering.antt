@@ -12,6 +12,7 @@ use Rattle.swi_hart.specs.declared.hart.Control.TheVariants.{At, Outside}
 use Rattle.swi_hart.specs.Matching.{Agrees, Arrives, Stands}
 use Rattle.swi_chip.specs.declared.chip.Chip.{Chip}
 use Rattle.swi_chip.specs.Bounded.{fifo_few}
+use Rattle.swi_chip.proofs.Repeating.{enters_repeated}
 use Rattle.swi_chip.specs.Service.{AnswersAt, ChipServed}
 use Rattle.swi_chip_run_laws.specs.Calls.{GoesOnAt}
 use Rattle.swi_chip_run_laws.specs.Runs.{EntersRight}
@@ -66,7 +67,7 @@ agrees v next f (Some e) c a = refl
 
 pub enters_right : EntersRight
 enters_right v s ram lists old new f answer c k e goes =
-    let q : ChipServed s (λ p. v) (indirect f.pc) answer old new = e s (λ p. v) ram lists k in
+    let q : ChipServed s (λ p. v) (indirect f.pc) answer old new = (enters_repeated s (λ p. v) ram lists old new f.pc answer k e).0 in
     record {
       next = q.next;
       words = q.words;

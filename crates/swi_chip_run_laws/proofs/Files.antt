@@ -22,6 +22,7 @@ use Rattle.swi_chip.specs.declared.chip.Chip.{Chip}
 use Rattle.swi_chip.specs.Bounded.{IsBounded, fifo_few}
 use Rattle.swi_chip.specs.Starting.{CanStart}
 use Rattle.swi_chip.proofs.Bounding.{keeps_bound}
+use Rattle.swi_chip.proofs.Repeating.{enters_repeated}
 use Rattle.swi_chip_start_laws.proofs.Files.{starts_from_file}
 use Rattle.swi_chip_run_laws.specs.Calls.{GoesOnAt, ProcessorState}
 use Rattle.swi_chip_run_laws.specs.Files.{IsStarted, RunsFromFile, setting_in}
@@ -55,7 +56,7 @@ module _ (t : TextData) (bytes : List ℕ) (f : Machine) (p : ProcessorState) (i
 
   -- the bound that was handed in
   bound : p.chip.most ≡ is.given.most
-  bound = (is.enters (empty_slots is.given.slots is.given.size.words 1) (λ n. image_of bytes) is.given.cache.now (replicate is.given.slots []) (is.starts (image_of bytes) can)).bound.most ∙ is.stays.most
+  bound = (enters_repeated (empty_slots is.given.slots is.given.size.words 1) (λ n. image_of bytes) is.given.cache.now (replicate is.given.slots []) is.empty p.chip f.pc is.answer (is.starts (image_of bytes) can) is.enters).0.bound.most ∙ is.stays.most
 
   boot : kept_by entered.next ≡ fifo_few is.given.most (setting_in is.given) empty_record (image_of bytes) (indirect f.pc)
   boot =

@@ -1,6 +1,6 @@
 -- One machine instruction of a processor with the service of `swi_chip`.
 use Rattle.std.proofs.Common.{◌≡◌, ◌∙◌, ◌==◌, ℕ, ◌+◌, ◌-◌, ◌*◌, ◌/◌, ◌%◌, ◌^◌, ◌<◌, ◌≤◌, Bool, true, false, List, slice_index, slice_set, Option, Some, None, ap, arith, refl, sym, subst, inl, inr, if◌then◌else◌}
-use Rattle.std.proofs.lemmas.Bool.{cases_Bool, eq-eqb, eqb-true, eqb-false}
+use Rattle.std.proofs.lemmas.Bool.{both_ways, cases_Bool, eq-eqb, eqb-true, eqb-false, false_from_ne_true}
 use Rattle.swi_isa.specs.declared.instr.Instr.{Instr}
 use Rattle.swi_isa.specs.declared.instr.Instr.TheVariants as instr
 use Rattle.swi_isa.specs.Decode.{decoded}
@@ -11,7 +11,7 @@ use Rattle.swi_calls.specs.Flat.{quiet}
 use Rattle.swi_image.specs.Format.{ImageData}
 use Rattle.swi_image.specs.Place.{length_at, word_at}
 use Rattle.swi_image.specs.Sound.{IsImage}
-use Rattle.swi_rom.specs.Record.{Record, Transfer, direct, ebreak, indirect, is_linked, jump_word}
+use Rattle.swi_rom.specs.Record.{Placed, Record, Transfer, direct, ebreak, indirect, is_linked, jump_word}
 use Rattle.swi_rom.specs.Coherent.{Coherent, ExitAt}
 use Rattle.swi_slots.specs.Coheres.{coheres}
 use Rattle.swi_slots.specs.Keys.{key_number, key_of, number_of}
@@ -20,14 +20,17 @@ use Rattle.swi_hart.specs.declared.hart.Control.{Control}
 use Rattle.swi_hart.specs.declared.hart.Control.TheVariants.{At, Outside}
 use Rattle.swi_hart.specs.declared.hart.ExitKind.{ExitKind}
 use Rattle.swi_hart.specs.declared.hart.ExitKind.TheVariants.{Direct, Misaligned, Trap, Indirect}
-use Rattle.swi_hart.specs.Hart.{Stepped, exit_kind}
+use Rattle.swi_hart.specs.Hart.{Stepped, exit_kind, place_under}
 use Rattle.swi_hart.specs.Leaving.{ExitHome, Home, JalrAt, exit_transfer, moved, transfer_at}
+use Rattle.swi_hart.specs.Staying.{StaysAt, fits_on}
 use Rattle.swi_hart.specs.Matching.{Jumps, JumpsBy}
 use Rattle.swi_chip.specs.declared.chip.Chip.{Chip}
 use Rattle.swi_chip.specs.Leaving as leaving
 use Rattle.swi_chip.specs.Owned.{is_jump}
 use Rattle.swi_chip.specs.Bounded.{fifo_few}
-use Rattle.swi_chip.specs.Service.{ChipServed, StandsFor, address_of, far_in}
+use Rattle.swi_chip.specs.Service.{ChipServed, StandsFor, address_of, far_in, with_links}
+use Rattle.swi_chip.specs.Repeated.{StandsOn}
+use Rattle.swi_chip.proofs.Repeating.{exits_repeated, leaves_refused, leaves_repeated, placed_still}
 use Rattle.swi_chip_laws.specs.Holding.{HoldsWords, ReadsBehind, Under}
 use Rattle.swi_chip_laws.specs.Running.{ChipStepAt, ServesBy}
 use Rattle.swi_chip_laws.specs.Stepping.{LeavesBy}
@@ -193,7 +196,7 @@ module _ (v : ImageData) (s : Slots) (ram : List ℕ) (lists : List (List ℕ)) 
             descriptor = read.descriptor;
           } in
           let q : ChipServed s (λ p. v) (direct w.block w.offset target) c.answer a.chip b.chip =
-          c.served.0 cells s (λ p. v) ram lists k (subst (λ (i : ℕ). ExitAt v (kept_by s) i target) (sym index) there) w.block w.offset home.first home.is_placed (inside u) (index ∙ home.index) in
+          (exits_repeated s (λ p. v) ram lists a.chip b.chip (address_of a.chip w.index) target c.answer k cells (subst (λ (i : ℕ). ExitAt v (kept_by s) i target) (sym index) there) w.block w.offset home.first home.is_placed (inside u) (index ∙ home.index) c.served).0 in
           served (direct w.block w.offset target) c.answer Direct kind q (ap (λ (n : ℕ). Some (direct w.block w.offset n)) (sym read.descriptor))
           (arrives s q.next v b.chip target c.answer q.stands.numbers.aligned q.answers step.control c.goes, c.made)
         where
@@ -238,31 +241,78 @@ module _ (v : ImageData) (s : Slots) (ram : List ℕ) (lists : List (List ℕ)) 
             JumpsBy (decoded (held a (w.index + 1))) v new step a.input (control_of w) a.hart.machine (held a (w.index + 2))
         by_true new test j = rw (c.is, test) j
 
-        linked_words : c.registers ≡ leaving.linked_by a.hart.machine.regs.words (leaving.jalr_at a.chip (address_of a.chip w.index)) (leaving.value_at a.chip (address_of a.chip w.index)) →
-            c.registers ≡ with_word a.hart.machine.regs.words c.rd (held a (w.index + 2))
-        linked_words e =
-            let one : leaving.jalr_at a.chip (address_of a.chip w.index) ≡ held a (w.index + 1) = ap (λ (i : ℕ). slice_index a.chip.cache.now (i + 1)) index_is in
-            let two : leaving.value_at a.chip (address_of a.chip w.index) ≡ held a (w.index + 2) = ap (λ (i : ℕ). slice_index a.chip.cache.now (i + 2)) index_is in
-            let rd : leaving.rd_of (leaving.jalr_at a.chip (address_of a.chip w.index)) ≡ c.rd = ap (λ (n : ℕ). n / 2 ^ 7 % 2 ^ 5) one ∙ jalr_rd (held a (w.index + 1)) c.rd c.rs1 c.imm c.is in
-            e ∙ ap (λ (n : ℕ). if n == 0 then a.hart.machine.regs.words else slice_set a.hart.machine.regs.words n (leaving.value_at a.chip (address_of a.chip w.index))) rd
-            ∙ ap (λ (x : ℕ). with_word a.hart.machine.regs.words c.rd x) two
+        abbrev pc : ℕ
+        pc = address_of a.chip w.index
+
+        abbrev last : Chip
+        last = c.served.calls.at c.served.calls.times
+
+        -- the last call is over a service with fewer links, which has the same words there
+        module _ (x : StandsOn s (λ p. v) a.chip last) where
+          abbrev t : Slots
+          t = with_links s x.targets x.unlinks
+
+          placed_all : (b f : ℕ) → Placed (kept_by s) b f → Placed (kept_by t) b f
+          placed_all = placed_still s x.targets x.unlinks
+
+          stays_all : (p : Option (ℕ × ℕ)) → StaysAt (kept_by s) (kept_by t) p
+          stays_all None = tt
+          stays_all (Some p) = λ f h. placed_all p.0 f h
+
+          under_last : Under v (kept_by t) (s.slots * s.size) x.words a.hart w.index w.block w.offset w.stage
+          under_last = record {
+            coherent = coheres t v x.words ((λ p. v), (refl, x.stands.serves));
+            small = u.small;
+            fits = fits_on v (kept_by s) (kept_by t) a.hart (stays_all (place_under a.hart.machine.ending a.hart.control)) u.fits;
+            running = u.running;
+            short = u.short;
+            control = u.control;
+          }
+
+          still_plain : is_linked (kept_by t) w.block w.offset ≡ false
+          still_plain = false_from_ne_true (is_linked (kept_by t) w.block w.offset) (λ is. both_ways (is_linked (kept_by s) w.block w.offset) not_linked (x.among s.turn w.block w.offset is))
+
+          read_last : ReadsBehind v last.cache.now w.index w.block w.offset
+          read_last =
+              let held' = holds_words x.stands in
+              reads_behind under_last last.cache.now held' (plain_word under_last last.cache.now held' still_plain ∙ read.exit)
+
+          far_last : far_in last pc / 4 ≡ w.index
+          far_last = ap (λ (n : ℕ). (pc + (2 ^ 32 - n)) % 2 ^ 32 / 4) x.cache_at ∙ index_is
+
+          linked_words : c.registers ≡ leaving.linked_by a.hart.machine.regs.words (leaving.jalr_at last pc) (leaving.value_at last pc) →
+              c.registers ≡ with_word a.hart.machine.regs.words c.rd (held a (w.index + 2))
+          linked_words e =
+              let one : leaving.jalr_at last pc ≡ held a (w.index + 1) = ap (λ (i : ℕ). slice_index last.cache.now (i + 1)) far_last ∙ (read_last.descriptor ∙ sym read.descriptor) in
+              let two : leaving.value_at last pc ≡ held a (w.index + 2) = ap (λ (i : ℕ). slice_index last.cache.now (i + 2)) far_last ∙ (read_last.value jalr ∙ sym (read.value jalr)) in
+              let rd : leaving.rd_of (leaving.jalr_at last pc) ≡ c.rd = ap (λ (n : ℕ). n / 2 ^ 7 % 2 ^ 5) one ∙ jalr_rd (held a (w.index + 1)) c.rd c.rs1 c.imm c.is in
+              e ∙ ap (λ (n : ℕ). if n == 0 then a.hart.machine.regs.words else slice_set a.hart.machine.regs.words n (leaving.value_at last pc)) rd
+              ∙ ap (λ (y : ℕ). with_word a.hart.machine.regs.words c.rd y) two
+
+          last_exit : leaving.IsExitAt last pc
+          last_exit =
+              let far' : far_in last pc ≡ far_in a.chip pc = ap (λ (n : ℕ). (pc + (2 ^ 32 - n)) % 2 ^ 32) x.cache_at in
+              let bytes : last.cache_bytes ≡ a.chip.cache_bytes = x.stands.numbers.bytes_are ∙ sym k.numbers.bytes_are in
+              let e = at_exit in
+              omega (arith, far', bytes, e)
 
         calls_leave : Behind v s a b step (control_of w)
         calls_leave = elim (cases_Bool (jalr_target a.hart.machine c.rs1 c.imm % 4 == 0)) [
           | inl even ↦
               let four : jalr_target a.hart.machine c.rs1 c.imm % 4 ≡ 0 = eqb-true _ _ even in
-              let q : ChipServed s (λ p. v) (indirect (jalr_target a.hart.machine c.rs1 c.imm)) c.answer a.chip b.chip = c.served.enters at_exit four s (λ p. v) ram lists k in
+              let z = leaves_repeated s (λ p. v) ram lists a.chip b.chip pc (jalr_target a.hart.machine c.rs1 c.imm) c.answer k at_exit four c.served.calls in
+              let q : ChipServed s (λ p. v) (indirect (jalr_target a.hart.machine c.rs1 c.imm)) c.answer a.chip b.chip = z.served in
               let few = answer_is s q.next v b.chip (jalr_target a.hart.machine c.rs1 c.imm) c.answer q.stands.numbers.aligned q.answers in
               let goes = c.goes few.1 in
-              let words = linked_words (c.links.links at_exit four few.0) in
+              let words = linked_words z.on (c.served.links.links (last_exit z.on) four few.0) in
               served (indirect (jalr_target a.hart.machine c.rs1 c.imm)) c.answer Indirect kind q (rw (decodes, even) refl)
               (by_true (kept_by q.next) even (
                 arrives s q.next v b.chip (jalr_target a.hart.machine c.rs1 c.imm) c.answer q.stands.numbers.aligned q.answers step.control goes.0,
                 goes.1 ∙ ap (λ (ws : List ℕ). quiet (record a.hart.machine { pc = jalr_target a.hart.machine c.rs1 c.imm; regs = record a.hart.machine.regs { words = ws }; steps = a.hart.machine.steps + 1 }) a.input) words,
               ))
           | inr odd ↦
-              let far : jalr_target a.hart.machine c.rs1 c.imm % 4 ≡ 0 → ⊥ = eqb-false _ _ odd in
-              let n = c.served.refuses at_exit far in
+              let far' : jalr_target a.hart.machine c.rs1 c.imm % 4 ≡ 0 → ⊥ = eqb-false _ _ odd in
+              let n = leaves_refused a.chip b.chip pc (jalr_target a.hart.machine c.rs1 c.imm) c.answer at_exit far' c.served.calls in
               stays (control_of w) n.1 (leaves Indirect (kept_by s) kind (by_test false odd (c.refused n.0))) (serves_by Indirect (kept_by s) kind (rw (decodes, odd) refl))
         ]
 

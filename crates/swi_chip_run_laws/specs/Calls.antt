@@ -18,9 +18,9 @@ use Rattle.swi_hart.specs.declared.hart.ExitKind.{ExitKind}
 use Rattle.swi_hart.specs.declared.hart.ExitKind.TheVariants.{Direct, Misaligned, Trap, Indirect}
 use Rattle.swi_hart.specs.Hart.{HartData, Stepped, exit_kind, hart_after, is_fall, left_made, original, stepped, trap_kind}
 use Rattle.swi_chip.specs.declared.chip.Chip.{Chip}
-use Rattle.swi_chip.specs.Leaving.{Leaves, Links}
 use Rattle.swi_chip.specs.Owned.{is_jump}
-use Rattle.swi_chip.specs.Service.{Exits, address_of, misaligned, no_text}
+use Rattle.swi_chip.specs.Repeated.{ExitCalls, LeaveCalls}
+use Rattle.swi_chip.specs.Service.{address_of, misaligned, no_text}
 use Rattle.swi_chip_laws.specs.Stepping.{Executes, GoesOver}
 
 -- What stands between two machine instructions: the hart, the service with its cache, the input that is left, and what was written.
@@ -53,10 +53,11 @@ GoesOnAt v c target answer (At i b o Return) = ⊥
 GoesOnAt v c target answer (At i b o Leave) = ⊥
 GoesOnAt v c target answer Outside = answer ≡ no_text
 
--- a direct exit: the vector calls `exit` with the address of the EBREAK and the word behind it, and goes on at the answer
+-- a direct exit: the vector calls `exit` with the address of the EBREAK and the word behind it, again while it answers so, and goes on at the
+-- last answer
 pub record CallsExit (v : ImageData) (a b : ProcessorState) (s : Stepped) (w : WordAt) : Type 0 where
   pub answer : ℕ
-  pub served : Exits a.chip b.chip (address_of a.chip w.index) (held a (w.index + 1)) answer
+  pub served : ExitCalls a.chip b.chip (address_of a.chip w.index) (held a (w.index + 1)) answer
   pub goes : GoesOnAt v b.chip (held a (w.index + 1)) answer s.control
   pub made : s.made ≡ left_made (is_fall v a.hart.machine w.block w.offset w.stage) a.hart.machine (held a (w.index + 1)) a.input
 
@@ -64,8 +65,8 @@ pub record CallsExit (v : ImageData) (a b : ProcessorState) (s : Stepped) (w : W
 abbrev pub jalr_target : Machine → ℕ → ℕ → ℕ
 jalr_target m rs1 imm = execute.address_of m.regs rs1 imm / 2 * 2
 
--- a jump over a register: the vector calls `leave` with the registers, the address of the EBREAK and the target of the JALR behind it, and
--- goes on at the answer, but where the target is misaligned
+-- a jump over a register: the vector calls `leave` with the registers, the address of the EBREAK and the target of the JALR behind it, again
+-- while it answers so, and goes on at the last answer, but where the target is misaligned
 pub record CallsLeave (v : ImageData) (a b : ProcessorState) (s : Stepped) (w : WordAt) : Type 0 where
   pub rd : ℕ
   pub rs1 : ℕ
@@ -73,8 +74,7 @@ pub record CallsLeave (v : ImageData) (a b : ProcessorState) (s : Stepped) (w : 
   pub is : decoded (held a (w.index + 1)) ≡ Some (instr.Jalr rd rs1 imm)
   pub answer : ℕ
   pub registers : List ℕ
-  pub served : Leaves a.chip b.chip (address_of a.chip w.index) (jalr_target a.hart.machine rs1 imm) answer
-  pub links : Links a.chip a.hart.machine.regs.words registers (address_of a.chip w.index) (jalr_target a.hart.machine rs1 imm) answer
+  pub served : LeaveCalls a.chip b.chip a.hart.machine.regs.words registers (address_of a.chip w.index) (jalr_target a.hart.machine rs1 imm) answer
   pub refused : answer ≡ misaligned → s ≡ stepped (control_of w) (ends a.hart.machine (Faulted kind.FetchMisaligned (jalr_target a.hart.machine rs1 imm)) a.input)
   pub goes : (answer ≡ misaligned → ⊥) → GoesOnAt v b.chip (jalr_target a.hart.machine rs1 imm) answer s.control
       × (s.made ≡ quiet (record a.hart.machine { pc = jalr_target a.hart.machine rs1 imm; regs = record a.hart.machine.regs { words = registers }; steps = a.hart.machine.steps + 1 }) a.input)

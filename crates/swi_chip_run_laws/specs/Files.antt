@@ -12,7 +12,8 @@ use Rattle.swi_slots.specs.Slots.{Slots, kept_by, setting_of}
 use Rattle.swi_board.specs.Transfers.{cost, here_of}
 use Rattle.swi_chip.specs.declared.chip.Chip.{Chip}
 use Rattle.swi_chip.specs.Bounded.{IsBounded, fifo_few}
-use Rattle.swi_chip.specs.Service.{Enters, StaysPut}
+use Rattle.swi_chip.specs.Repeated.{EnterCalls}
+use Rattle.swi_chip.specs.Service.{StaysPut}
 use Rattle.swi_chip.specs.Starting.{CanStart, Starts}
 use Rattle.swi_chip_start_laws.specs.Files.{HasFile, HasRoom, IsChecked}
 use Rattle.swi_chip_run_laws.specs.Calls.{GoesOnAt, ProcessorMoved, ProcessorState}
@@ -31,7 +32,7 @@ pub record IsStarted (t : TextData) (bytes : List ℕ) (f : Machine) (p : Proces
   pub starts : (v : ImageData) → CanStart given v → Starts given v empty
   pub stays : StaysPut given empty
   pub answer : ℕ
-  pub enters : Enters empty p.chip f.pc answer
+  pub enters : EnterCalls empty p.chip f.pc answer
   pub goes : GoesOnAt (image_of bytes) p.chip f.pc answer p.hart.control
   pub machine : p.hart.machine ≡ f
 

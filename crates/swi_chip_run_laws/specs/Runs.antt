@@ -13,7 +13,8 @@ use Rattle.swi_board.specs.Moments.{events}
 use Rattle.swi_board.specs.Transfers.{cost, here_of, spent_run}
 use Rattle.swi_chip.specs.declared.chip.Chip.{Chip}
 use Rattle.swi_chip.specs.Bounded.{fifo_few}
-use Rattle.swi_chip.specs.Service.{Enters, StandsFor}
+use Rattle.swi_chip.specs.Repeated.{EnterCalls}
+use Rattle.swi_chip.specs.Service.{StandsFor}
 use Rattle.swi_chip_laws.specs.Running.{ChipRanSteps, ChipState, StandsAfter, moment_of}
 use Rattle.swi_chip_run_laws.specs.Calls.{GoesOnAt, ProcessorMoved, ProcessorState}
 
@@ -33,7 +34,7 @@ pub record EnteredAt (v : ImageData) (s : Slots) (f : Machine) (chip : Chip) (c 
 
 abbrev pub EntersRight : Type 0
 EntersRight = (v : ImageData) (s : Slots) (ram : List ℕ) (lists : List (List ℕ)) (old new : Chip) (f : Machine) (answer : ℕ) (c : Control) → StandsFor s (λ p. v) ram lists old →
-    Enters old new f.pc answer → GoesOnAt v new f.pc answer c → EnteredAt v s f new c
+    EnterCalls old new f.pc answer → GoesOnAt v new f.pc answer c → EnteredAt v s f new c
 
 -- so many machine instructions, from one state to the next; at first the hart stands where the flat machine does, over an image of its text
 pub record IsProcessorRun (v : ImageData) (s : Slots) (n : ℕ) (f : Machine) (at : ℕ → ProcessorState) : Type 0 where
