@@ -8,7 +8,7 @@ ghost use Rattle.swi_chip.specs.Service.{CanUndo, CanWait, CountedUndone, Counts
 
 use crate::chip::{Chip, ChipCounts};
 use crate::lists::leave;
-use swi_rom::EBREAK;
+use swi_isa::EBREAK;
 
 /// How many links one call undoes.
 const PORTION: u16 = 8;
