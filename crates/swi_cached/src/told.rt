@@ -9,12 +9,14 @@ ghost use Rattle.swi_outside.specs.Sink.{AppendsPrefix};
 ghost use Rattle.swi_outside.specs.Source.{HasGiven};
 ghost use Rattle.swi_outside.specs.Told.{AsTold};
 ghost use Rattle.swi_trace.specs.History.{IsLastOf};
+ghost use Rattle.swi_hart.specs.MachineStep.{BoardStepped, ReadyToStep};
 ghost use Rattle.swi_hart.specs.Matching.{Fits};
 ghost use Rattle.swi_cached.specs.Told.{history_of, is_each, told_line};
 ghost use Rattle.swi_cached.specs.Traced.{ToldRan};
 
 use std::alloc::Global;
 use swi_board::{Board, BoardFault};
+use swi_hart::quick_step;
 use swi_image::ImageView;
 use swi_line::Trace;
 use swi_outside::{Failed, Memory, Sink, Source, SteadyRam};
@@ -68,6 +70,29 @@ fn tell<E: Sink, S: CacheRom>(
     Ok(steps + 1)
 }
 
+/// One machine instruction, over a service that is sound: the image's own word stands under control then, and no other
+/// hand's is looked for, as `Board::step` does.
+fn make_step<I: Source, O: Sink, E: Sink, R: SteadyRam, S: CacheRom>(
+    board: &mut Board<S>,
+    image: &ImageView<'_>,
+    ram: &mut R,
+    input: &mut I,
+    out: &mut O,
+    err: &mut E,
+) -> Result<(), BoardFault>
+    requires ready { ReadyToStep image.now (S.service.kept board.old.rom) board.old.hart }
+    requires sound { S.service.sound board.old.rom image.now (R.state ram.old).words }
+    ensures gave { HasGiven (I.state input.old) (I.state input.new) }
+    ensures stepped { AsTold (I.state input.old) (I.state input.new) (λ old new. BoardStepped S.service image.now
+        (record { hart = board.old.hart; rom = board.old.rom; ram = R.state ram.old })
+        (record { hart = board.new.hart; rom = board.new.rom; ram = R.state ram.new })
+        (streams old (O.state out.old) (E.state err.old))
+        (streams new (O.state out.new) (E.state err.new)) result) }
+{
+    let Board { hart, rom, .. } = board;
+    quick_step(hart, rom, image, ram, input, out, err)
+}
+
 /// Makes steps until `limit` are made or the run has ended, each told before it is made where steps are told. Answers
 /// the history. The run is that on each input from which what was given may have been read.
 pub(crate) fn run_steps<I: Source, O: Sink, E: Sink, R: SteadyRam, S: CacheRom>(
@@ -119,7 +144,7 @@ pub(crate) fn run_steps<I: Source, O: Sink, E: Sink, R: SteadyRam, S: CacheRom>(
             Ok(told) => lines = told,
             Err(_) => return Err(BoardFault::SinkFault),
         }
-        board.step(image, ram, input, out, err)?;
+        make_step(board, image, ram, input, out, err)?;
     }
     Ok(Some(last))
 }

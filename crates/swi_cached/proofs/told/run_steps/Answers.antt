@@ -14,8 +14,8 @@ loop-telling-init g c = on_start c.requires.first c.requires.fits c.requires.run
 pub tell-requires-clause-lines : goal.tell-requires-clause-lines
 tell-requires-clause-lines g c = elim (on_some c.loop-telling.invariant).2.next [ inl same ↦ inl same | inr next ↦ inr next.0 ]
 
-pub step-requires-clause-ready : goal.step-requires-clause-ready
-step-requires-clause-ready g c =
+pub make_step-requires-clause-ready : goal.make_step-requires-clause-ready
+make_step-requires-clause-ready g c =
     let more : c.loop-telling.board.hart.machine.steps < c.args.limit = omega (arith, c.loop-telling-test.true, c.steps.ensures) in
     let running : c.loop-telling.board.hart.machine.ending ≡ None = sym c.ending.ensures ∙ c.in-None.is in
     let point = (on_some c.loop-telling.invariant).2.stays.point in
@@ -27,39 +27,36 @@ step-requires-clause-ready g c =
       fits = point.fits;
     }
 
-pub step-requires-clause-unfailed : goal.step-requires-clause-unfailed
-step-requires-clause-unfailed g c = (on_some c.loop-telling.invariant).2.stays.point.failed ∙ c.requires.unfailed
-
-pub step-requires-clause-sound : goal.step-requires-clause-sound
-step-requires-clause-sound g c = inl (on_some c.loop-telling.invariant).2.stays.sound
+pub make_step-requires-clause-sound : goal.make_step-requires-clause-sound
+make_step-requires-clause-sound g c = (on_some c.loop-telling.invariant).2.stays.sound
 
 pub loop-telling-preserved : goal.loop-telling-preserved
 loop-telling-preserved g c =
     let more : c.loop-telling.board.hart.machine.steps < c.args.limit = omega (arith, c.loop-telling-test.true, c.steps.ensures) in
     let running : c.loop-telling.board.hart.machine.ending ≡ None = sym c.ending.ensures ∙ c.in-None.is in
-    rw c.in-Ok.ensures.count (on_more c.loop-telling.invariant c.in_ok-step.ensures.gave (λ i mid rest was read.
+    rw c.in-Ok.ensures.count (on_more c.loop-telling.invariant c.in_ok-make_step.ensures.gave (λ i mid rest was read.
     told_more c.requires.first (g.E.Sink.state c.tell.new.err) was g.met.S.CacheRom.laws more running c.in-Ok.ensures.word c.in-Ok.ensures.cause.quiet
-    (record { wrote = c.in-Ok.ensures.line; noted = c.in-Ok.ensures.noted; rests = λ is. (let same = c.in-Ok.ensures.told is in (same.0, ap (λ (l : List ℕ). Some l) same.1)) }) refl (c.in_ok-step.ensures.stepped mid rest read)))
+    (record { wrote = c.in-Ok.ensures.line; noted = c.in-Ok.ensures.noted; rests = λ is. (let same = c.in-Ok.ensures.told is in (same.0, ap (λ (l : List ℕ). Some l) same.1)) }) refl (c.in_ok-make_step.ensures.stepped mid rest read)))
 
 pub loop-telling-smaller : goal.loop-telling-smaller
 loop-telling-smaller g c =
     let more : c.loop-telling.board.hart.machine.steps < c.args.limit = omega (arith, c.loop-telling-test.true, c.steps.ensures) in
     let running : c.loop-telling.board.hart.machine.ending ≡ None = sym c.ending.ensures ∙ c.in-None.is in
     let sound = (on_some c.loop-telling.invariant).2.stays.sound in
-    falls more running (as_told_stands c.in_ok-step.ensures.gave (λ i rest read. (c.in_ok-step.ensures.stepped i rest read).grown sound))
+    falls more running (as_told_stands c.in_ok-make_step.ensures.gave (λ i rest read. (c.in_ok-make_step.ensures.stepped i rest read).grown sound))
 
-pub returns-in_err-step-clause-gave : goal.returns-in_err-step-clause-gave
-returns-in_err-step-clause-gave g c = given_more c.loop-telling.invariant.gave c.in_err-step.ensures.gave
+pub returns-in_err-make_step-clause-gave : goal.returns-in_err-make_step-clause-gave
+returns-in_err-make_step-clause-gave g c = given_more c.loop-telling.invariant.gave c.in_err-make_step.ensures.gave
 
-pub returns-in_err-step-clause-ran : goal.returns-in_err-step-clause-ran
-returns-in_err-step-clause-ran g c i rest read =
-    let p = err_from_is_err_and c.from_residual-in_err-step.result c.from_residual-in_err-step.ensures.1 in
+pub returns-in_err-make_step-clause-ran : goal.returns-in_err-make_step-clause-ran
+returns-in_err-make_step-clause-ran g c i rest read =
+    let p = err_from_is_err_and c.from_residual-in_err-make_step.result c.from_residual-in_err-make_step.ensures.1 in
     let more : c.loop-telling.board.hart.machine.steps < c.args.limit = omega (arith, c.loop-telling-test.true, c.steps.ensures) in
     let running : c.loop-telling.board.hart.machine.ending ≡ None = sym c.ending.ensures ∙ c.in-None.is in
-    let was = c.loop-telling.invariant.along i _ (read_first c.loop-telling.invariant.gave c.in_err-step.ensures.gave read) in
+    let was = c.loop-telling.invariant.along i _ (read_first c.loop-telling.invariant.gave c.in_err-make_step.ensures.gave read) in
     rw (p.1, p.2) (told_broken c.requires.first {history' = Some c.tell.new.history} (g.E.Sink.state c.tell.new.err) was more running c.in-Ok.ensures.word c.in-Ok.ensures.cause.quiet
     (record { wrote = c.in-Ok.ensures.line; noted = c.in-Ok.ensures.noted; rests = λ is. (let same = c.in-Ok.ensures.told is in (same.0, ap (λ (l : List ℕ). Some l) same.1)) })
-    (c.in_err-step.ensures.stepped _ rest (read_last c.loop-telling.invariant.gave c.in_err-step.ensures.gave read)))
+    (c.in_err-make_step.ensures.stepped _ rest (read_last c.loop-telling.invariant.gave c.in_err-make_step.ensures.gave read)))
 
 pub returns-in-Err-clause-gave : goal.returns-in-Err-clause-gave
 returns-in-Err-clause-gave g c = c.loop-telling.invariant.gave
