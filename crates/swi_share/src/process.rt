@@ -62,7 +62,7 @@ fn start<'a>(alloc: Global, guest: Guest<'a>) -> Result<Process<'a>, Memory>
     Ok(Process {
         hart,
         image,
-        input: Input::new(alloc, input),
+        input: Input::new(input),
     })
 }
 
