@@ -13,7 +13,7 @@ use Rattle.swi_task.specs.Devices.{Devices, IsUntouched, with_error_faults}
 use Rattle.swi_task.specs.Task.{Task}
 use Rattle.swi_task.proofs.Lines.{errors_later, rose_above, rose_below, take_all}
 use Rattle.swi_task.proofs.Refusals.{gave_same}
-use Rattle.swi_top.specs.Alike.{IsFree}
+use Rattle.swi_top.specs.Alike.{IsUnhindered}
 use Rattle.swi_top.specs.Tasks.{task_of}
 use Rattle.swi_top.proofs.Alike.{completes}
 use Rattle.swi_answer_laws.specs.Answered.{Answer, AnswersAreOne, Given, IsAnswerTo, IsSameAnswer, cache_words}
@@ -177,7 +177,7 @@ not_both : (g : Given) (d m d_ m_ : Devices) (e : Ending) (r : Refusal) → IsAn
 not_both g d m d_ m_ e r x y =
     let t : Task = task_of g.request in
     let rams : d_.ram ≡ d.ram = y.ram ∙ sym x.ram in
-    let free : IsFree t g.files d_ m_ (Err r) = record {
+    let free : IsUnhindered t g.files d_ m_ (Err r) = record {
       are = y.are;
       all = y.all;
       accepted = x.answers.answers.checked g.files x.are;

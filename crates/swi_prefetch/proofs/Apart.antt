@@ -27,7 +27,7 @@ use Rattle.swi_engine.specs.State.{EngineData, kept_by}
 use Rattle.swi_engine.proofs.Eventing.{any_true}
 use Rattle.swi_engine.proofs.Shapes.{distinct_append, filter_has, has_last}
 use Rattle.swi_prefetch.specs.Events.{Turn, of_hart, of_engine, booted, engine_event, turned, turned_all, worked}
-use Rattle.swi_prefetch.specs.Laws.{CopyApart, IsFree}
+use Rattle.swi_prefetch.specs.Laws.{CopyApart, IsVacant}
 use Rattle.swi_prefetch.specs.Turns.{Beside, event_at}
 
 abbrev first_at : Placement → ℕ
@@ -85,31 +85,31 @@ more_seats size es x n is at apart = record {
       (distinct_append (map first_at es) x.first is.once (λ h. let w = map_has first_at es x.first h in apart w.0 w.1 w.2));
 }
 
-free_seats : (size : ℕ) (r : Record) (c n : ℕ) → Seats size r.placed → IsFree size r.placed n → Seats size (with_block r c (n * size))
+free_seats : (size : ℕ) (r : Record) (c n : ℕ) → Seats size r.placed → IsVacant size r.placed n → Seats size (with_block r c (n * size))
 free_seats size r c n is free = more_seats size r.placed (record { program = r.turn; block = c; first = n * size }) n is refl free
 
 tail_seats : (size : ℕ) (e : Placement) (es : List Placement) → Seats size (e ∷ es) → Seats size es
 tail_seats size e es is = record { slots = λ f h. is.slots f (inr h); once = is.once.1 }
 
 -- a slot in which none stands
-taken_free : (size : ℕ) (es : List Placement) (n : ℕ) → is_taken size es n ≡ false → IsFree size es n
+taken_free : (size : ℕ) (es : List Placement) (n : ℕ) → is_taken size es n ≡ false → IsVacant size es n
 taken_free size es n untaken = λ e h at. false≢true (sym untaken ∙ any_true (λ (p : Placement). p.first == n * size) es e h (eq-eqb e.first (n * size) at))
 
-lowest_free : (size : ℕ) (es : List Placement) (n k m : ℕ) → lowest size es n k ≡ Some m → IsFree size es m
+lowest_free : (size : ℕ) (es : List Placement) (n k m : ℕ) → lowest size es n k ≡ Some m → IsVacant size es m
 unfolding lowest
 lowest_free size es n zero m is = absurd (let bad : ⊥ = cc in bad)
 lowest_free size es n (suc k) m is = by (lowest_free size es (n + 1) k m) (is_taken size es n) refl is
   where
-    by : (lowest size es (n + 1) k ≡ Some m → IsFree size es m) → (t : Bool) → is_taken size es n ≡ t → (if t then lowest size es (n + 1) k else Some n) ≡ Some m → IsFree size es m
+    by : (lowest size es (n + 1) k ≡ Some m → IsVacant size es m) → (t : Bool) → is_taken size es n ≡ t → (if t then lowest size es (n + 1) k else Some n) ≡ Some m → IsVacant size es m
     by rest true taken at = rest at
-    by rest false untaken at = let same : n ≡ m = cc in subst (λ (j : ℕ). IsFree size es j) same (taken_free size es n untaken)
+    by rest false untaken at = let same : n ≡ m = cc in subst (λ (j : ℕ). IsVacant size es j) same (taken_free size es n untaken)
 
 -- ---- a transfer
 
 brought_seated : (size : ℕ) (r : Record) (c first words : ℕ) → copy_of r ≡ None → Seats size (with_block r c first) → Seated size (brought r c first words)
 brought_seated size r c first words none is = record { seats = is; apart = subst (λ (k : Option Copying). CopyApart size (with_block r c first) k) (sym none) tt }
 
-into_seated : (size : ℕ) (v : ImageData) (r : Record) (c : ℕ) (o : Option ℕ) → copy_of r ≡ None → Seats size r.placed → ((n : ℕ) → o ≡ Some n → IsFree size r.placed n) → Seated size (into size v r c o)
+into_seated : (size : ℕ) (v : ImageData) (r : Record) (c : ℕ) (o : Option ℕ) → copy_of r ≡ None → Seats size r.placed → ((n : ℕ) → o ≡ Some n → IsVacant size r.placed n) → Seated size (into size v r c o)
 unfolding evicted
 into_seated size v r c (Some n) none is free = brought_seated size r c (n * size) (length_at v c) none (free_seats size r c n is (free n refl))
 into_seated size v r c None none is free = by r.placed refl
@@ -168,7 +168,7 @@ all_seated by v (t ∷ ts) r is = all_seated by v ts (beside by r v t) (beside_s
 
 -- ---- an event of the engine
 
-wrote_seated : (size : ℕ) (v : ImageData) (r : Record) (k : Copying) → Seats size r.placed → IsFree size r.placed k.slot → Seated size (wrote_next size v r k)
+wrote_seated : (size : ℕ) (v : ImageData) (r : Record) (k : Copying) → Seats size r.placed → IsVacant size r.placed k.slot → Seated size (wrote_next size v r k)
 wrote_seated size v r k is free = by (k.done + 1 == length_at v k.block)
   where
     done : Record
@@ -198,7 +198,7 @@ slot_back size n = elim (cases_lt 0 size) [
 ]
 
 -- the oldest block makes way: no other one stands in its slot
-others_free : (size : ℕ) (es : List Placement) (e : Placement) → Seats size es → Has es e → IsFree size (others e es) (e.first / size)
+others_free : (size : ℕ) (es : List Placement) (e : Placement) → Seats size es → Has es e → IsVacant size (others e es) (e.first / size)
 others_free size es e is has = λ f h at.
     let kept = filter_has (λ (f : Placement). not (f.block == e.block)) es f h in
     let slot = is.slots e has in
@@ -222,7 +222,7 @@ oldest_seated : (size : ℕ) (v : ImageData) (r : Record) (c : ℕ) (o : Option 
 oldest_seated size v r c None is has = tt
 oldest_seated size v r c (Some e) is has = way_seated size v r c e (newest_into e r.links) is (has e refl)
 
-free_seated : (size : ℕ) (v : ImageData) (r : Record) (h c : ℕ) (o : Option ℕ) → Seated size r → ((n : ℕ) → o ≡ Some n → IsFree size r.placed n) → AreSeated size (into_free size v r h c o)
+free_seated : (size : ℕ) (v : ImageData) (r : Record) (h c : ℕ) (o : Option ℕ) → Seated size r → ((n : ℕ) → o ≡ Some n → IsVacant size r.placed n) → AreSeated size (into_free size v r h c o)
 free_seated size v r h c (Some n) is free = wrote_seated size v r (record { block = c; slot = n; done = 0 }) is.seats (free n refl)
 free_seated size v r h c None is free = oldest_seated size v r c (oldest_but h r.placed) is (λ e at. oldest_has h r.placed e at)
 

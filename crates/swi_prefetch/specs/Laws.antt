@@ -43,8 +43,8 @@ pub record Stood (v : ImageData) (s0 s : Moment) : Type 0 where
   pub place : s.flat.machine.ending ≡ None → FallMade falls v s (here_run v steps s0.flat s0.here)
   pub spends : s.flat.machine.ending ≡ None → SpendsIn v s s.here
 
-abbrev pub Stands : Type 0
-Stands = (by : Setting) (v : ImageData) (ts : List Turn) (s : Moment) → s.spent ≡ 0 → Stood v s (turned_all by v ts s)
+abbrev pub StandsInSteps : Type 0
+StandsInSteps = (by : Setting) (v : ImageData) (ts : List Turn) (s : Moment) → s.spent ≡ 0 → Stood v s (turned_all by v ts s)
 
 -- ---- the words that are set and fetched
 
@@ -65,12 +65,12 @@ KeepsFetched = (by : Setting) (v : ImageData) (ts : List Turn) (s : Moment) → 
 -- ---- the copy
 
 -- no block stands in a slot, and in that of the copy, if there is one
-abbrev pub IsFree : ℕ → List Placement → ℕ → Type 0
-IsFree size placed n = (e : Placement) → Has placed e → e.first ≡ n * size → ⊥
+abbrev pub IsVacant : ℕ → List Placement → ℕ → Type 0
+IsVacant size placed n = (e : Placement) → Has placed e → e.first ≡ n * size → ⊥
 
 abbrev pub CopyApart : ℕ → List Placement → Option Copying → Type 0
 CopyApart size placed None = ⊤
-CopyApart size placed (Some k) = IsFree size placed k.slot
+CopyApart size placed (Some k) = IsVacant size placed k.slot
 
 -- from the boot on no placed block stands in the slot that has a copy
 abbrev pub StaysApart : Type 0

@@ -1,7 +1,7 @@
 //! Laws of schedules, which follow from their definitions.
 #![tactic(auto)]
 
-ghost use Rattle.swi_prefetch.specs.Laws.{BeginsWritten, BoardApart, KeepsFetched, Stands, StaysApart, StaysFew, StaysWritten};
+ghost use Rattle.swi_prefetch.specs.Laws.{BeginsWritten, BoardApart, KeepsFetched, StandsInSteps, StaysApart, StaysFew, StaysWritten};
 
 /// Laws of what [`Prefetch`](crate::Prefetch) does, whatever its events are and in whatever order; it does nothing.
 ///
@@ -10,7 +10,7 @@ ghost use Rattle.swi_prefetch.specs.Laws.{BeginsWritten, BoardApart, KeepsFetche
 /// No placed block stands in the slot that has a copy. Between any two events the machine instructions are at most three
 /// for each original step, and three.
 pub fn laws_of_prefetch()
-    ensures stands { Stands }
+    ensures stands { StandsInSteps }
     ensures begins_written { BeginsWritten }
     ensures stays_written { StaysWritten }
     ensures keeps_fetched { KeepsFetched }

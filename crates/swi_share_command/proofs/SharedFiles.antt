@@ -20,7 +20,7 @@ use Rattle.swi_task.specs.Checks.{Check, IsAccepted, IsRefusedBy, IsRefusedOr, f
 use Rattle.swi_task.specs.Answers.{IsLast, StandFirst}
 use Rattle.swi_task.specs.Files.{FileRead, answer_by}
 use Rattle.swi_share_command.specs.RunShared.{FilesRead, FilesRefused, FilesUnread, FirstRead, GotSome, IsFileRefusal, IsGuestFile, IsRefusedSo, ShelfBroke, files_checks, guest_checks}
-use Rattle.swi_task.specs.Task.{GaveFirst, Tells, TellsAll}
+use Rattle.swi_task.specs.Task.{GaveFirst, TellsFile, TellsAll}
 use Rattle.swi_task.proofs.Images.{front_fails}
 use Rattle.swi_task.proofs.Refusals.{IsRead, IsTooLong, asked_none, gave_none, gave_same, short_refused, told_is, too_long, zip_none}
 
@@ -54,7 +54,7 @@ fails_in (c ∷ cs) b r h = elim h [
 -- a file is refused behind others that pass
 pub refused_at : (limits : RunLimits) (most : ℕ) (contents : Option Contents) (r : Refusal) (front : List (List ℕ)) (read : List (List ℕ)) (name : List ℕ) (rest files : List (List ℕ)) →
     AllZip (Stands contents) front read → All (IsGuestFile limits most) read → TellsAll contents (front ++ name ∷ rest) files →
-    ((file : List ℕ) → Tells contents name file → IsRefusedBy (guest_checks limits most file) r) → IsRefusedBy (files_checks limits most files) r
+    ((file : List ℕ) → TellsFile contents name file → IsRefusedBy (guest_checks limits most file) r) → IsRefusedBy (files_checks limits most files) r
 refused_at limits most contents r [] [] name rest [] stand ok told fails = absurd told
 refused_at limits most contents r [] [] name rest (file ∷ files) stand ok told fails =
     front_fails (guest_checks limits most file) (files_checks limits most files) r (fails file told.0)

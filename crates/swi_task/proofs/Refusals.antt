@@ -25,7 +25,7 @@ use Rattle.swi_task.specs.Causes.{HasCauses}
 use Rattle.swi_task.specs.Checks.{Check, IsShort, IsAcceptedElf, HasRoom, HasImage, IsAcceptedImage, IsOwnImage, FitsBlocks, FitsUnlessImage, FitsMade, HoldsBlock, Fails, IsAccepted, IsRefusedBy, IsRefusedOr, Caches, NoCache, InRam, CountedFor, cache_limit, cache_refusal, file_limit, first_size_refusal, size_refusal}
 use Rattle.swi_task.specs.Answers.{Answers, AreGiven, HasPassed, HasStored, IsAskedFor, IsChecked, IsLast, IsLastLonger, IsSized, IsSizeRefusal, IsRunFault, KeepsInput, KeepsRam, StandFirst, writes_in, KeepsShelf}
 use Rattle.swi_task.specs.Files.{FileRead, answer_by}
-use Rattle.swi_task.specs.Task.{AreFiles, GaveFirst, Task, Tells, TellsAll}
+use Rattle.swi_task.specs.Task.{AreFiles, GaveFirst, Task, TellsFile, TellsAll}
 
 -- a refusal by a check of the file, or want of memory
 abbrev pub IsLate : Refusal → Type 0
@@ -236,7 +236,7 @@ pub keeps_input : (takes : Bool) (s : SourceState) → KeepsInput takes s s
 keeps_input true s = tt
 keeps_input false s = refl
 
-pub told_is : (c : Option Contents) (name file bytes : List ℕ) → Tells c name file → Stands c name bytes → bytes ≡ file
+pub told_is : (c : Option Contents) (name file bytes : List ℕ) → TellsFile c name file → Stands c name bytes → bytes ≡ file
 told_is None name file bytes told stands = absurd told
 told_is (Some m) name file bytes told stands = cc
 
@@ -530,13 +530,13 @@ read_failed t name d s is size got =
       causes = shelf_causes d s got.cause.later failed.0;
     }
 
-longer_is : (c : Option Contents) (name file : List ℕ) (limit : ℕ) → Tells c name file → IsLonger c name limit → limit < length file
+longer_is : (c : Option Contents) (name file : List ℕ) (limit : ℕ) → TellsFile c name file → IsLonger c name limit → limit < length file
 longer_is None name file limit told longer = absurd told
 longer_is (Some m) name file limit told longer =
     let same : longer.0 ≡ file = cc in subst (λ (f : List ℕ). limit < length f) same longer.2
 
 -- then its length is refused
-pub too_long : (c : Option Contents) (name file : List ℕ) → IsLonger c name file_limit → Tells c name file → Fails (IsShort file) (refusal.FileLong file_limit)
+pub too_long : (c : Option Contents) (name file : List ℕ) → IsLonger c name file_limit → TellsFile c name file → Fails (IsShort file) (refusal.FileLong file_limit)
 too_long c name file longer told = (longer_is c name file file_limit told longer, refl)
 
 -- the shelf failed, it was too long, or there was no memory for it

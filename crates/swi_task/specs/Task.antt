@@ -8,13 +8,13 @@ use Rattle.swi_task.specs.Devices.{Devices}
 use Rattle.swi_task.specs.Checks.{Caches, Check}
 
 -- the shelf tells that this stands under the name
-abbrev pub Tells : Option Contents → List ℕ → List ℕ → Type 0
-Tells None name file = ⊥
-Tells (Some contents) name file = contents name ≡ Some file
+abbrev pub TellsFile : Option Contents → List ℕ → List ℕ → Type 0
+TellsFile None name file = ⊥
+TellsFile (Some contents) name file = contents name ≡ Some file
 
 -- that these contents stand under the names, in their order
 abbrev pub TellsAll : Option Contents → List (List ℕ) → List (List ℕ) → Type 0
-TellsAll contents names files = AllZip (Tells contents) names files
+TellsAll contents names files = AllZip (TellsFile contents) names files
 
 -- the shelf gave just these contents, once each and in their order, of the first of these names
 pub record GaveFirst (names files : List (List ℕ)) (before after : ShelfState) : Type 0 where

@@ -34,7 +34,7 @@ use Rattle.swi_cached_command.specs.RunCached.{cached_task, shown_end, shown_err
 use Rattle.swi_file_commands.specs.RunPlain.{plain_report, plain_run, plain_task}
 use Rattle.swi_task.specs.Task.{Task}
 use Rattle.swi_top.specs.Tasks.{task_of}
-use Rattle.swi_top.specs.Alike.{IsFree, LeavesAlike}
+use Rattle.swi_top.specs.Alike.{IsUnhindered, LeavesAlike}
 use Rattle.swi_task.proofs.Lines.{errors_later, rose_above, rose_below, take_all}
 use Rattle.swi_task.proofs.Refusals.{gave_same}
 
@@ -66,7 +66,7 @@ not_both (c ∷ cs) r passed h = elim h [ inl f ↦ fails_not c r passed.0 f | i
 size_not : (x : Option Refusal) (r : Refusal) → x ≡ None → x ≡ Some r → ⊥
 size_not x r none some = cc
 
-not_refused : (t : Task) (files : t.Files) (before after : Devices) (r : Refusal) → AnswersWithLine t before after (Err r) → IsFree t files before after (Err r) → ⊥
+not_refused : (t : Task) (files : t.Files) (before after : Devices) (r : Refusal) → AnswersWithLine t before after (Err r) → IsUnhindered t files before after (Err r) → ⊥
 not_refused t files before after refusal.Usage a free = a.answers.asked refl
 not_refused t files before after refusal.Memory a free = free.memory refl
 not_refused t files before after refusal.ShelfFault a free = free.quiet.shelf (a.answers.causes.shelf.cause refl)
@@ -97,7 +97,7 @@ not_refused t files before after (refusal.Long address needs) a free = not_both 
 not_refused t files before after (refusal.CacheSmall bytes least) a free = not_both (t.checks files) (refusal.CacheSmall bytes least) free.accepted (a.answers.checked files free.are)
 
 pub completes : (q : Request) (files : (task_of q).Files) (before after : Devices) (result : Result Ending Refusal) →
-    AnswersWithLine (task_of q) before after result → IsFree (task_of q) files before after result → (e : Ending) × (result ≡ Ok e)
+    AnswersWithLine (task_of q) before after result → IsUnhindered (task_of q) files before after result → (e : Ending) × (result ≡ Ok e)
 completes q files before after (Ok e) a free = (e, refl)
 completes q files before after (Err r) a free = absurd (not_refused (task_of q) files before after r a free)
 
@@ -156,8 +156,8 @@ ran_seen : (s : FlatState) (report : List ℕ) (d m : Devices) (n : ℕ) (e : En
 ran_seen s report d m n e last h = record { ending = h.ending; input = h.input; output = h.output; error = h.error }
 
 ended_alike : (name : List ℕ) (cache : CacheOptions) (o : RunOptions) (file input : List ℕ) (before plain cached : Devices) (e f : Ending) →
-    AnswersWithLine (plain_task name o) before plain (Ok e) → IsFree (plain_task name o) file before plain (Ok e) →
-    AnswersWithLine (cached_task name cache o) before cached (Ok f) → IsFree (cached_task name cache o) file before cached (Ok f) →
+    AnswersWithLine (plain_task name o) before plain (Ok e) → IsUnhindered (plain_task name o) file before plain (Ok e) →
+    AnswersWithLine (cached_task name cache o) before cached (Ok f) → IsUnhindered (cached_task name cache o) file before cached (Ok f) →
     before.input.left ≡ Some input → ((j : ℕ) → j < o.limits.steps → StoresAt (start_of o file input) j → ⊥) → (f ≡ e) × LeavesAlike o before plain cached
 ended_alike name cache o file input before plain cached e f one free other free' told never =
     let ran = ran_seen _ _ before plain one.untold e _ (one.answers.done file free.are input told) in
@@ -169,8 +169,8 @@ ended_alike name cache o file input before plain cached e f one free other free'
     (λ off. ap (λ (q : FlatState). q.error) (shown_is o.reports.trace c off ∙ flat)) ran (one.whole (λ rose. free.quiet.error (rose_below before.error.faults one.untold plain.error.faults (errors_later before (with_error_faults plain one.untold) (Ok e) one.answers.causes) rose))) (ran_seen _ _ before cached other.untold f _ runs.ran) (other.whole (λ rose. free'.quiet.error (rose_below before.error.faults other.untold cached.error.faults (errors_later before (with_error_faults cached other.untold) (Ok f) other.answers.causes) rose)))
 
 pub ends_alike : (name : List ℕ) (cache : CacheOptions) (o : RunOptions) (file input : List ℕ) (before plain cached : Devices) (one other : Result Ending Refusal) →
-    AnswersWithLine (plain_task name o) before plain one → IsFree (plain_task name o) file before plain one →
-    AnswersWithLine (cached_task name cache o) before cached other → IsFree (cached_task name cache o) file before cached other →
+    AnswersWithLine (plain_task name o) before plain one → IsUnhindered (plain_task name o) file before plain one →
+    AnswersWithLine (cached_task name cache o) before cached other → IsUnhindered (cached_task name cache o) file before cached other →
     before.input.left ≡ Some input → ((j : ℕ) → j < o.limits.steps → StoresAt (start_of o file input) j → ⊥) →
     (e : Ending) × (one ≡ Ok e) × (other ≡ Ok e) × LeavesAlike o before plain cached
 ends_alike name cache o file input before plain cached (Ok e) (Ok f) a free b free' told never =

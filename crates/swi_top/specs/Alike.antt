@@ -29,7 +29,7 @@ pub record NoneRose (before after : Devices) : Type 0 where
 
 -- nothing stood in a command's way: all its files were given, or are told, and all checks pass; none of its caches is too large, or larger than
 -- the ram; no device failed, and there was memory
-pub record IsFree (t : Task) (files : t.Files) (before after : Devices) (result : Result Ending Refusal) : Type 0 where
+pub record IsUnhindered (t : Task) (files : t.Files) (before after : Devices) (result : Result Ending Refusal) : Type 0 where
   pub are : AreFiles t before.shelf after.shelf files
   pub all : length (t.contents files) ≡ length t.reads
   pub accepted : IsAccepted (t.checks files)
@@ -40,7 +40,7 @@ pub record IsFree (t : Task) (files : t.Files) (before after : Devices) (result 
 -- then it ends
 abbrev pub Completes : Type 0
 Completes = (q : Request) (files : (task_of q).Files) (before after : Devices) (result : Result Ending Refusal) →
-    AnswersWithLine (task_of q) before after result → IsFree (task_of q) files before after result → (e : Ending) × (result ≡ Ok e)
+    AnswersWithLine (task_of q) before after result → IsUnhindered (task_of q) files before after result → (e : Ending) × (result ≡ Ok e)
 
 -- what two runs leave that began over the same devices
 pub record LeavesAlike (o : RunOptions) (before plain cached : Devices) : Type 0 where
@@ -61,7 +61,7 @@ pub record LeavesAlike (o : RunOptions) (before plain cached : Devices) : Type 0
 -- with the same limits, reports and input.
 abbrev pub EndsAlike : Type 0
 EndsAlike = (name : List ℕ) (cache : CacheOptions) (o : RunOptions) (file input : List ℕ) (before plain cached : Devices) (one other : Result Ending Refusal) →
-    AnswersWithLine (plain_task name o) before plain one → IsFree (plain_task name o) file before plain one →
-    AnswersWithLine (cached_task name cache o) before cached other → IsFree (cached_task name cache o) file before cached other →
+    AnswersWithLine (plain_task name o) before plain one → IsUnhindered (plain_task name o) file before plain one →
+    AnswersWithLine (cached_task name cache o) before cached other → IsUnhindered (cached_task name cache o) file before cached other →
     before.input.left ≡ Some input → ((j : ℕ) → j < o.limits.steps → StoresAt (start_of o file input) j → ⊥) →
     (e : Ending) × (one ≡ Ok e) × (other ≡ Ok e) × LeavesAlike o before plain cached
