@@ -10,7 +10,7 @@ ghost use Rattle.swi_prefetch.specs.Turns.{Beside, EngineTurned, HartTurned};
 
 use crate::engine::CopyEngine;
 use swi_board::Board;
-use swi_hart::BoardFault;
+use swi_hart::{BoardFault, quick_step};
 use swi_image::ImageView;
 use swi_outside::{CacheRam, Failed, Sink, Source};
 
@@ -66,5 +66,6 @@ pub fn step<R: CopyEngine, M: CacheRam, I: Source, O: Sink, E: Sink>(
     if board.ending().is_some() {
         return Ok(());
     }
-    board.step(image, ram, input, out, err)
+    let Board { hart, rom, .. } = board;
+    quick_step(hart, rom, image, ram, input, out, err)
 }
