@@ -35,7 +35,7 @@ use Rattle.swi_measure_command.specs.MeasureMade.{IsMadeRun, made_ending, made_r
 use Rattle.swi_share.specs.declared.process.Guest.{Guest}
 use Rattle.swi_share.specs.Shared.{Context, Shared, shared_run}
 use Rattle.swi_share.specs.Starting.{first_context, most_words}
-use Rattle.swi_share_command.specs.RunShared.{AreGuestsOf, IsGuestOf, IsPlaced, limits_by, order_of, share_report, shared_end}
+use Rattle.swi_share_command.specs.RunShared.{AreGuestsOf, IsGuestOf, BlocksStand, limits_by, order_of, share_report, shared_end}
 use Rattle.swi_answer_laws.specs.Placed.{StandAlike, Standing, ahead_standing, cached_standing, shared_standing}
 use Rattle.swi_answer_laws.proofs.Alike.{RamWent, gain, ran_alike, store_none, went_alike}
 use Rattle.swi_answer_laws.proofs.Ended.{End, EndOnce, SameRam}
@@ -251,7 +251,7 @@ record HasShared (o : ShareOptions) (s : Shared) (x : End) : Type 0 where
   error : Appends x.before.error.held x.after.error.held (s.error ++ ending_line x.ending)
   went : RamWent s.fetches (writes s.kept) s.words x.before.ram x.after.ram
   unused : SameFrom (extent_of s.setting s.kept) x.before.ram.words x.after.ram.words
-  coherent : (g : ℕ) (c : Context) → slice_index_or s.contexts g None ≡ Some c → IsPlaced s g c x.after.ram.words
+  coherent : (g : ℕ) (c : Context) → slice_index_or s.contexts g None ≡ Some c → BlocksStand s g c x.after.ram.words
 
 pub share_once : (names : List (List ℕ)) (cache : CacheOptions) (o : ShareOptions) → EndOnce (RunShared names cache o)
 share_once names cache o files input x y same p q =

@@ -1,7 +1,7 @@
 -- A told run that a device broke off, in the words of its original steps.
-use Rattle.std.proofs.Common.{◌≡◌, ℕ, suc, ◌+◌, ◌-◌, ◌<◌, ◌≤◌, Bool, true, false, List, [], ◌++◌, length, reverse, take, drop, if◌then◌else◌, Option, Some, None, is_some, Err, slice_index, refl, sym, ap, subst, ◌∙◌, inl, inr, arith, append-nil, append_assoc}
-use Rattle.std.proofs.lemmas.List.{length-reverse, reverse-append, reverse-reverse, take-append-drop}
-use Rattle.std.proofs.Math.Seq.{take-append_seam, take-append-add}
+use Rattle.std.proofs.Common.{◌≡◌, ◌⊎◌, ℕ, suc, ◌+◌, ◌-◌, ◌<◌, ◌≤◌, Bool, true, false, List, [], ◌++◌, length, reverse, take, if◌then◌else◌, Option, Some, None, is_some, Err, slice_index, refl, sym, ap, subst, ◌∙◌, inl, inr, arith, append-nil, append_assoc}
+use Rattle.std.proofs.lemmas.List.{length-reverse, reverse-append, reverse-reverse}
+use Rattle.std.proofs.Math.Seq.{take-append-add}
 use Rattle.std.specs.Io.KnownBytes.{Appends, Consumes}
 use Rattle.swi_outside.specs.CacheRam.{Fetch, RamState, since}
 use Rattle.swi_outside.specs.Causes.{risen}
@@ -18,7 +18,6 @@ use Rattle.swi_calls.specs.declared.machine.Machine.{Machine}
 use Rattle.swi_hart.specs.declared.fault.BoardFault.{BoardFault}
 use Rattle.swi_hart.specs.declared.fault.BoardFault.TheVariants.{RamFault, SourceFault, SinkFault}
 use Rattle.swi_hart.specs.Calling.{OnDevice}
-use Rattle.swi_hart.proofs.Taking.{input_shrinks}
 use Rattle.swi_board.specs.Board.{BoardWithDevices, Around}
 use Rattle.swi_board.specs.Fetching.{FetchedFront}
 use Rattle.swi_board.specs.Moments.{Moment, Policy, event, events}
@@ -31,7 +30,8 @@ use Rattle.swi_run_laws.proofs.After.{is_after}
 use Rattle.swi_run_laws.proofs.Broken.{broke_off, off_in_order, off_unasked}
 use Rattle.swi_run_laws.proofs.RunLaws.{flat_at, goes_short, most_fetched, steps_are, words_front}
 use Rattle.swi_line.specs.declared.trace.Trace.{Trace}
-use Rattle.swi_cached.specs.Answers.{Failed, RamFailed, RamWithin, StepFailed}
+use Rattle.swi_outcome.proofs.Fronts.{front_none, seam, to_nil}
+use Rattle.swi_cached.specs.Answers.{Failed, RamFailed, RamWithin, StreamFailed}
 use Rattle.swi_cached.specs.Cached.{CachedRun, IsFresh, fetches_after, program_after, words_after}
 use Rattle.swi_cached.specs.CachedRan.{Booted, with_input}
 use Rattle.swi_cached.specs.Told.{error_by, is_each, told_line}
@@ -41,10 +41,10 @@ use Rattle.swi_cached.proofs.Tells.{error_next, event_told, line_is, same_at, te
 use Rattle.swi_cached.proofs.Unasked.{line_unasked, told_some, told_unasked}
 use Rattle.swi_cached.proofs.Within.{Within, within, words_within}
 
-seam : (j : ℕ) (xs ys : List ℕ) → take (length (take j xs)) (xs ++ ys) ≡ take j xs
-seam j xs ys =
-    ap (λ (l : List ℕ). take (length (take j xs)) (l ++ ys)) (sym (take-append-drop j xs))
-    ∙ ap (λ (l : List ℕ). take (length (take j xs)) l) (append_assoc (take j xs) (drop j xs) ys) ∙ take-append_seam (take j xs) (drop j xs ++ ys)
+device_is : (f : BoardFault) → (f ≡ RamFault → ⊥) → (f ≡ SourceFault) ⊎ (f ≡ SinkFault)
+device_is RamFault other = absurd (other refl)
+device_is SourceFault other = inl refl
+device_is SinkFault other = inr refl
 
 -- the words of so many machine instructions are a front of the run's
 front_of : (by : Policy) (v : ImageData) (k : ℕ) (s : Moment) → s.spent ≡ 0 → s.words ≡ [] → (words : List Fetch) → (events by v (cost v k s.flat s.here) s).words ≡ reverse words → (j : ℕ) → j ≤ cost v k s.flat s.here → (before after : RamState) →
@@ -152,47 +152,46 @@ module _ {S : Type 0} {k : ServiceOf S} (laws : IsService k) {v : ImageData} {ro
     first_line (inl (is, told_all)) = told_all.0
     first_line (inr (is, begun)) = absurd (let one = broke.first in omega (arith, is, one))
 
-    line_failed : (sink : SinkState) → sink ≡ new.devices.error → StepFailed c SinkFault before (record { ram = mid.ram; devices = (with_sink mid sink).devices })
+    line_failed : (sink : SinkState) → sink ≡ new.devices.error → StreamFailed c SinkFault before (record { ram = mid.ram; devices = (with_sink mid sink).devices })
     line_failed sink is =
         let p = broke.front in
         let told_so = first_line (tells_as mid.hart.machine.ending None (is_each telling) n start.flat steps lines to.error history running to.tells) in
         let front = take p.0 (told_line (is_each telling) (program_after c steps).machine) in
         let piece : Appends mid.devices.error.held sink.held front =
         subst (λ (o : SinkState). Appends mid.devices.error.held o.held front) (sym is) (subst (λ (l : List ℕ). Appends mid.devices.error.held new.devices.error.held (take p.0 l)) same_line p.1) in
+        let told_front : Appends before.devices.error.held sink.held ((error_by (is_each telling) steps start.flat ++ front) ++ []) =
+        to_nil before.devices.error.held sink.held (error_by (is_each telling) steps start.flat ++ front)
+        (subst (λ (l : List ℕ). Appends before.devices.error.held sink.held (l ++ front)) told_so
+        (Appends-append before.devices.error.held mid.devices.error.held sink.held to.error front to.tracks.error piece)) in
+        let output_is : Appends before.devices.output.held mid.devices.output.held (program_after c steps).output =
+        subst (λ (q : FlatState). Appends before.devices.output.held mid.devices.output.held q.output) here to.tracks.output in
         record {
-          steps = steps;
-          fewer = more;
-          going = going;
-          output_front = 0;
-          output = subst (λ (q : FlatState). Appends before.devices.output.held mid.devices.output.held (q.output ++ [])) here
-              (subst (λ (l : List ℕ). Appends before.devices.output.held mid.devices.output.held l) (sym (append-nil last.flat.output)) to.tracks.output);
-          error_front = length front;
-          error = subst (λ (l : List ℕ). Appends before.devices.error.held sink.held (error_by (is_each telling) steps start.flat ++ l)) (sym (seam p.0 line written))
-              (subst (λ (l : List ℕ). Appends before.devices.error.held sink.held (l ++ front)) told_so
-              (Appends-append before.devices.error.held mid.devices.error.held sink.held to.error front to.tracks.error piece));
-          unwritten = λ e. let bad : ⊥ = cc in absurd bad;
-          output_failed = λ rose. absurd (rose (ap (λ (f : Faults). f.output) (quiet_run boot along).0));
-          error_failed = λ _. inl (
-            told_some (is_each telling) (program_after c steps).machine broke.is_each,
-            subst (λ (q : FlatState). Appends before.devices.output.held mid.devices.output.held q.output) here to.tracks.output,
-            (
-              p.0,
-              subst (λ (l : List ℕ). Appends before.devices.error.held sink.held (l ++ front)) told_so
-                  (Appends-append before.devices.error.held mid.devices.error.held sink.held to.error front to.tracks.error piece),
-            ),
-          );
-          taken = [];
-          input = subst (λ (x : Option (List ℕ)). Consumes (Some (program_after c steps).input) x []) (sym (to.tracks.input ∙ ap (λ (q : FlatState). Some q.input) here)) refl;
-          few = let shrinks = input_shrinks (program_after c steps).machine (program_after c steps).input in omega (arith, shrinks);
-          unasked = line_unasked (is_each telling) (program_after c steps) {first = faults_of before.devices} {after = faults_of (with_sink mid sink).devices} broke.is_each
-              (ap (λ (f : Faults). f.output) (quiet_run boot along).0);
+          failed = record {
+            steps = steps;
+            fewer = more;
+            failed = record {
+              fault = inr refl;
+              going = going;
+              output = (0, to_nil before.devices.output.held mid.devices.output.held (program_after c steps).output output_is);
+              error_front = length front;
+              error = subst (λ (l : List ℕ). Appends before.devices.error.held sink.held ((error_by (is_each telling) steps start.flat ++ l) ++ [])) (sym (seam p.0 line written)) told_front;
+              source = λ e. let bad : ⊥ = cc in absurd bad;
+              output_failed = λ rose. absurd (rose (ap (λ (f : Faults). f.output) (quiet_run boot along).0));
+              error_failed = λ _. inl (line, refl, told_some (is_each telling) (program_after c steps).machine broke.is_each, output_is, (p.0, told_front));
+              unasked = line_unasked (is_each telling) (program_after c steps) {first = faults_of before.devices} {after = faults_of (with_sink mid sink).devices} broke.is_each
+                  (ap (λ (f : Faults). f.output) (quiet_run boot along).0);
+              taken = [];
+              no_more = omega arith;
+              input = subst (λ (x : Option (List ℕ)). Consumes (Some (program_after c steps).input) x []) (sym (to.tracks.input ∙ ap (λ (q : FlatState). Some q.input) here)) refl;
+            };
+          };
           ram = ram_within along.made (omega arith) (omega arith) mid.ram to.tracks.words to.tracks.ram.fetches refl refl;
         }
 
     pub failed_at_line : Failed c fault before (record { ram = new.ram; devices = new.devices }) × FetchedFront (words_after c n) before.ram new.ram
     failed_at_line = (
       subst (λ (f : BoardFault). Failed c f before (record { ram = new.ram; devices = new.devices })) (sym broke.fault_is)
-          (subst (λ (w : BoardWithDevices S). StepFailed c SinkFault before (record { ram = w.ram; devices = w.devices })) (sym broke.rest)
+          (subst (λ (w : BoardWithDevices S). StreamFailed c SinkFault before (record { ram = w.ram; devices = w.devices })) (sym broke.rest)
           (line_failed new.devices.error refl)),
       fetched_front along.made (omega arith) new.ram (ap (λ (w : BoardWithDevices S). w.ram.fetched_at) broke.rest ∙ to.tracks.words),
     )
@@ -231,33 +230,46 @@ module _ {S : Type 0} {k : ServiceOf S} (laws : IsService k) {v : ImageData} {ro
 
     -- the input or a sink
     device_failed : (f : BoardFault) → fault ≡ f → (f ≡ RamFault → ⊥) → DeviceBroke by v f (with_errors begun.error last) (from_point boot) (point_of k new) →
-        StepFailed c f before (record { ram = new.ram; devices = new.devices })
+        StreamFailed c f before (record { ram = new.ram; devices = new.devices })
     device_failed f is other d =
         let asked = off_unasked k v n (with_sink mid broke.sink) new fault (λ e. other (sym is ∙ e)) along.stays.sound broke.broke (with_errors begun.error last) (from_point boot) tracks_mid in
         let order = off_in_order k v n (with_sink mid broke.sink) new fault (λ e. other (sym is ∙ e)) along.stays.sound broke.broke (with_errors begun.error last) (from_point boot) tracks_mid in
+        let output_is : Appends before.devices.output.held new.devices.output.held ((program_after c steps).output ++ take d.output_front (next_of (program_after c steps)).output) =
+        subst (λ (q : FlatState). Appends before.devices.output.held new.devices.output.held (q.output ++ take d.output_front (next_of q).output)) here d.output in
+        let begun_is : begun.error ≡ error_by (is_each telling) steps start.flat ++ line = begun.begun.0 in
+        let as_begun : Appends before.devices.error.held new.devices.error.held begun.error → Appends before.devices.error.held new.devices.error.held ((error_by (is_each telling) steps start.flat ++ line) ++ []) =
+        λ held. to_nil before.devices.error.held new.devices.error.held (error_by (is_each telling) steps start.flat ++ line)
+        (subst (λ (l : List ℕ). Appends before.devices.error.held new.devices.error.held l) begun_is held) in
         record {
-          steps = steps;
-          fewer = more;
-          going = going;
-          output_front = d.output_front;
-          output = subst (λ (q : FlatState). Appends before.devices.output.held new.devices.output.held (q.output ++ take d.output_front (next_of q).output)) here d.output;
-          error_front = length line + d.error_front;
-          error = subst (λ (l : List ℕ). Appends before.devices.error.held new.devices.error.held l)
-              (ap (λ (l : List ℕ). l ++ take d.error_front (next_of last.flat).error) begun.begun.0
-              ∙ append_assoc (error_by (is_each telling) steps start.flat) line (take d.error_front (next_of last.flat).error)
-              ∙ ap (λ (q : FlatState). error_by (is_each telling) steps start.flat ++ (line ++ take d.error_front (next_of q).error)) here
-              ∙ ap (λ (l : List ℕ). error_by (is_each telling) steps start.flat ++ l) (sym (take-append-add line written d.error_front)))
-              d.error;
-          output_failed = λ rose. subst (λ (l : List ℕ). Appends before.devices.error.held new.devices.error.held l) begun.begun.0
-              (order.output_failed (λ same. rose (same ∙ ap (λ (f : Faults). f.output) faults_so_far)));
-          error_failed = λ rose. inr (subst (λ (q : FlatState). Appends before.devices.output.held new.devices.output.held (q.output ++ (next_of q).output)) here
-              (order.error_failed (λ same. rose (same ∙ ap (λ (f : Faults). f.error) faults_so_far))));
-          unwritten = λ e. (let fronts = d.unwritten e in let empty = fronts.1 in (fronts.0, (let sum : length line + d.error_front ≡ length line = omega (arith, empty) in sum)));
-          taken = d.taken;
-          input = subst (λ (q : FlatState). Consumes (Some q.input) new.devices.input.left d.taken) here d.input;
-          few = subst (λ (q : FlatState). length d.taken + length (next_of q).input ≤ length q.input) here d.few;
-          unasked = told_unasked (is_each telling) {q = last.flat} {s = program_after c steps} {first = faults_of before.devices} {before = faults_of (with_sink mid broke.sink).devices} {after = faults_of new.devices} here asked
-              (ap (λ (f : Faults). f.output) faults_so_far) (ap (λ (f : Faults). f.error) faults_so_far);
+          failed = record {
+            steps = steps;
+            fewer = more;
+            failed = record {
+              fault = device_is f other;
+              going = going;
+              output = (d.output_front, output_is);
+              error_front = length line + d.error_front;
+              error = to_nil before.devices.error.held new.devices.error.held (error_by (is_each telling) steps start.flat ++ take (length line + d.error_front) (line ++ written))
+                  (subst (λ (l : List ℕ). Appends before.devices.error.held new.devices.error.held l)
+                  (ap (λ (l : List ℕ). l ++ take d.error_front (next_of last.flat).error) begun.begun.0
+                  ∙ append_assoc (error_by (is_each telling) steps start.flat) line (take d.error_front (next_of last.flat).error)
+                  ∙ ap (λ (q : FlatState). error_by (is_each telling) steps start.flat ++ (line ++ take d.error_front (next_of q).error)) here
+                  ∙ ap (λ (l : List ℕ). error_by (is_each telling) steps start.flat ++ l) (sym (take-append-add line written d.error_front)))
+                  d.error);
+              source = λ e. let fronts = d.unwritten e in (
+                front_none before.devices.output.held new.devices.output.held (program_after c steps).output (next_of (program_after c steps)).output d.output_front fronts.0 output_is,
+                as_begun (front_none before.devices.error.held new.devices.error.held begun.error (next_of last.flat).error d.error_front fronts.1 d.error),
+              );
+              output_failed = λ rose. as_begun (order.output_failed (λ same. rose (same ∙ ap (λ (f : Faults). f.output) faults_so_far)));
+              error_failed = λ rose. inr (subst (λ (q : FlatState). Appends before.devices.output.held new.devices.output.held (q.output ++ (next_of q).output)) here
+                  (order.error_failed (λ same. rose (same ∙ ap (λ (f : Faults). f.error) faults_so_far))));
+              taken = d.taken;
+              input = subst (λ (q : FlatState). Consumes (Some q.input) new.devices.input.left d.taken) here d.input;
+              no_more = let few = subst (λ (q : FlatState). length d.taken + length (next_of q).input ≤ length q.input) here d.few in omega (arith, few);
+              unasked = told_unasked (is_each telling) {q = last.flat} {s = program_after c steps} {first = faults_of before.devices} {before = faults_of (with_sink mid broke.sink).devices} {after = faults_of new.devices} here asked
+                  (ap (λ (f : Faults). f.output) faults_so_far) (ap (λ (f : Faults). f.error) faults_so_far);
+            };
+          };
           ram = ram_within (suc along.made) (omega arith) (omega arith) new.ram
               (d.words ∙ ap (λ (l : List Fetch). since before.ram.sets l ++ before.ram.fetched_at) next_words)
               (d.fetches ∙ ap (λ (l : List Fetch). risen before.ram.fetches (length l)) next_words)

@@ -1,10 +1,10 @@
 -- What a run on the cached machine leaves: where it came to its end, and where a device failed.
-use Rattle.std.specs.Prelude.{◌≡◌, ◌⊎◌, ℕ, ◌+◌, ◌*◌, ◌<◌, ◌≤◌, Bool, List, [], ◌++◌, length, slice_index, take, Option, Some, None, Result, IfOk, IsErrOf, OnErr, OnOk, is_some, true, false, if◌then◌else◌}
+use Rattle.std.specs.Prelude.{◌≡◌, ◌⊎◌, ℕ, ◌+◌, ◌*◌, ◌<◌, ◌≤◌, Bool, List, [], ◌++◌, length, slice_index, Option, Some, None, Result, IfOk, IsErrOf, OnErr, OnOk, is_some, true, false, if◌then◌else◌}
 use Rattle.std.specs.Option.{ForSome}
-use Rattle.std.specs.Io.KnownBytes.{Appends, Consumes}
+use Rattle.std.specs.Io.KnownBytes.{Appends}
 use Rattle.swi_outside.specs.Causes.{DeviceCause, risen}
 use Rattle.swi_outside.specs.CacheRam.{Fetch, RamState, KeepsBeyond}
-use Rattle.swi_outside.specs.Devices.{Devices, HasCauses, faults_of}
+use Rattle.swi_outside.specs.Devices.{HasCauses, faults_of}
 use Rattle.swi_calls.specs.Flat.{Made}
 use Rattle.swi_calls.specs.declared.end.End.TheVariants.{StoreText}
 use Rattle.swi_rom.specs.Coherent.{Coherent}
@@ -16,9 +16,9 @@ use Rattle.swi_hart.specs.Hart.{HartData, is_between}
 use Rattle.swi_hart.specs.Matching.{Fits}
 use Rattle.swi_board.specs.Board.{BoardOf, Around}
 use Rattle.swi_board.specs.Fetching.{FetchedFront, HasFetched}
-use Rattle.swi_board.specs.Ran.{Unasked}
 use Rattle.swi_board.specs.Transfers.{here_of}
 use Rattle.swi_line.specs.declared.trace.Trace.{Trace}
+use Rattle.swi_outcome.specs.Broken.{FailedAtStep, Names, Steps, taken_next}
 use Rattle.swi_cached.specs.declared.run.CachedStop.{CachedStop}
 use Rattle.swi_cached.specs.declared.run.CachedStop.TheVariants as stop
 use Rattle.swi_cached.specs.Cached.{CachedRun, IsCarried, IsCounted, span_of, program_after, told_after, end_of, instructions_after, fetches_after, words_after, place_after, record_after, record_behind_exit, used_after}
@@ -97,41 +97,30 @@ pub record RamFailed (c : CachedRun) (before after : Around) : Type 0 where
 abbrev pub step_after : CachedRun → ℕ → Made
 step_after c n = next_told c.trace (program_after c n)
 
--- The error sink failed at the line of the step that comes after so many, of which a front was written; the step was not begun.
-abbrev pub FailedAtLine : CachedRun → ℕ → Devices → Devices → Type 0
-FailedAtLine c n before after = (told_line c.trace (program_after c n).machine ≡ [] → ⊥)
-    × Appends before.output.held after.output.held (program_after c n).output
-    × ((front : ℕ) × Appends before.error.held after.error.held ((told_after c n).error ++ take front (told_line c.trace (program_after c n).machine)))
+-- the run with what it tells: behind so many steps the errors hold, before the next one is begun, its line too
+abbrev pub told_steps : CachedRun → Steps
+told_steps c = record {
+  coming = λ n. record {
+    state = told_after c n;
+    begun = (told_after c n).error ++ told_line c.trace (program_after c n).machine;
+    next = step_after c n;
+    most = taken_next (program_after c n);
+  };
+  limit = c.limit;
+}
 
--- The input or a sink failed at a step: so many were made before it; each sink gained what they wrote, and then a front
--- of what the next one writes: where the input failed, nothing but its line. Of the input no more is gone than what they took, and a
--- front of what the next one takes. A sink to which that step gives nothing was not asked by it.
-pub record StepFailed (c : CachedRun) (fault : BoardFault) (before after : Around) : Type 0 where
-  pub steps : ℕ
-  pub fewer : steps < c.limit
-  pub going : (program_after c steps).machine.ending ≡ None
-  pub output_front : ℕ
-  pub output : Appends before.devices.output.held after.devices.output.held ((program_after c steps).output ++ take output_front (step_after c steps).output)
-  pub error_front : ℕ
-  pub error : Appends before.devices.error.held after.devices.error.held ((told_after c steps).error ++ take error_front (step_after c steps).error)
-  pub unwritten : fault ≡ SourceFault → (output_front ≡ 0) × (error_front ≡ length (told_line c.trace (program_after c steps).machine))
-  -- what that step writes to the output comes before what it writes to the errors, as the line of a call comes behind the call's output: where
-  -- the output failed, the errors hold nothing of the step but its own line; where they failed behind that line, the output has all of it
-  pub output_failed : (after.devices.output.faults ≡ before.devices.output.faults → ⊥) →
-      Appends before.devices.error.held after.devices.error.held ((told_after c steps).error ++ told_line c.trace (program_after c steps).machine)
-  pub error_failed : (after.devices.error.faults ≡ before.devices.error.faults → ⊥) → FailedAtLine c steps before.devices after.devices
-      ⊎ Appends before.devices.output.held after.devices.output.held ((program_after c steps).output ++ (step_after c steps).output)
-  pub taken : List ℕ
-  pub input : Consumes (Some (program_after c steps).input) after.devices.input.left taken
-  pub few : length taken + length (step_after c steps).input ≤ length (program_after c steps).input
-  pub unasked : Unasked (step_after c steps) (faults_of before.devices) (faults_of after.devices)
-  -- the ram was asked no further
-  pub ram : RamWithin c steps before.ram after.ram
+abbrev pub stream_names : Names BoardFault
+stream_names = record { source = SourceFault; sink = SinkFault }
+
+-- the input or a sink failed at a step, and the ram was asked no further
+pub record StreamFailed (c : CachedRun) (fault : BoardFault) (before after : Around) : Type 0 where
+  pub failed : FailedAtStep stream_names (told_steps c) before.devices after.devices fault []
+  pub ram : RamWithin c failed.steps before.ram after.ram
 
 abbrev pub Failed : CachedRun → BoardFault → Around → Around → Type 0
 Failed c RamFault before after = RamFailed c before after
-Failed c SourceFault before after = StepFailed c SourceFault before after
-Failed c SinkFault before after = StepFailed c SinkFault before after
+Failed c SourceFault before after = StreamFailed c SourceFault before after
+Failed c SinkFault before after = StreamFailed c SinkFault before after
 
 -- ---- what a run says in the words of its original steps
 

@@ -1,5 +1,5 @@
 -- A run on the cached machine, from what its parts say.
-use Rattle.std.proofs.Common.{◌≡◌, ◌⊎◌, inl, inr, ℕ, ◌+◌, ◌≤◌, List, [], ◌++◌, length, take, drop, append_assoc, if◌then◌else◌, Option, None, Some, Result, Ok, Err, IsErrOf, MatchResult, refl, sym, ◌∙◌, subst, ap, arith}
+use Rattle.std.proofs.Common.{◌≡◌, ◌⊎◌, inl, inr, ℕ, ◌+◌, ◌≤◌, List, [], ◌++◌, length, take, if◌then◌else◌, Option, None, Some, Result, Ok, Err, IsErrOf, MatchResult, refl, sym, ◌∙◌, subst, ap, arith}
 use Rattle.std.proofs.lemmas.List.{append-nil}
 use Rattle.std.specs.Io.KnownBytes.{Appends}
 use Rattle.swi_outside.specs.Causes.{DeviceCause, Rose}
@@ -29,10 +29,9 @@ use Rattle.swi_cached.specs.Answers as run
 use Rattle.swi_board.specs.Board.{Around}
 use Rattle.swi_hart.specs.declared.fault.BoardFault.{BoardFault}
 use Rattle.swi_hart.specs.declared.fault.BoardFault.TheVariants as board
-use Rattle.swi_cached.specs.Told.{addresses, history_of, next_error, told_line}
+use Rattle.swi_cached.specs.Told.{addresses, history_of, told_line}
 use Rattle.swi_memory.specs.Bus.{AreaData}
-use Rattle.std.proofs.Math.Seq.{take-append_seam, take-length}
-use Rattle.std.proofs.lemmas.List.{take-append-drop}
+use Rattle.std.proofs.Math.Seq.{take-length}
 use Rattle.swi_cached.specs.Cached.{CachedRun, IsCounted, end_of, program_after, told_after, instructions_after, words_after, record_after}
 use Rattle.swi_cached.proofs.Failed.{is_flat_run, stops_before_store}
 use Rattle.swi_board.specs.Fetching.{FetchedFront}
@@ -40,15 +39,18 @@ use Rattle.swi_answer.specs.declared.answer.Ending.{Ending}
 use Rattle.swi_answer.specs.declared.answer.Refusal.{Refusal}
 use Rattle.swi_answer.specs.declared.answer.Refusal.TheVariants as refusal
 use Rattle.swi_answer.specs.Lines.{ending_line}
-use Rattle.swi_task.specs.Answers.{Answers, IsChecked}
-use Rattle.swi_cached_task.specs.Caching.{board_work, cache_for, cached_run, held_next, held_taken}
+use Rattle.swi_outcome.proofs.Fronts.{seam, to_nil}
+use Rattle.swi_outcome.proofs.Named.{AreNamed, step_named}
+use Rattle.swi_task.specs.Answers.{Answers, IsChecked, IsRunFault}
+use Rattle.swi_task.specs.Over.{IsRunErr}
+use Rattle.swi_cached_task.specs.Caching.{board_work, cache_for, cached_run}
 use Rattle.swi_cached_task.specs.Placing.{cached_checks}
-use Rattle.swi_cached_task.proofs.Caching.{cached_run_is, cached_to, front_none, keeps_all, keeps_run, ran_all, run_err_asked, run_err_checked, run_err_given, run_err_not, run_err_short, run_err_size, to_nil, work_is}
+use Rattle.swi_cached_task.proofs.Caching.{cached_run_is, cached_to, keeps_all, keeps_run, ran_all, run_err_asked, run_err_checked, run_err_given, run_err_not, run_err_short, run_err_size, work_is}
 use Rattle.swi_task.specs.Causes.{HasCauses}
 use Rattle.swi_task.specs.Checks.{IsAccepted, room_in, size_refusal}
 use Rattle.swi_task.specs.Devices.{Devices, stream_faults}
-use Rattle.swi_cached_command.specs.RunCached.{BrokeIn, CachedFailed, RamBroke, RunsCached, StepBroke, RunsOver, addresses_in, cached_report, last_lines, last_told, stop_refusal, cached_task, shown_error, told_next}
-use Rattle.swi_task.specs.Runs.{FailedAfterRun, FailedAtLine, ending_by, report, start_of}
+use Rattle.swi_cached_command.specs.RunCached.{BrokeIn, CachedFailed, RamBroke, RunsCached, StreamBroke, RunsOver, addresses_in, cached_report, last_lines, last_told, stop_refusal, cached_task, shown_error}
+use Rattle.swi_task.specs.Runs.{FailedAfterRun, ending_by, refusal_names, refusal_of, report, start_of}
 use Rattle.swi_task.specs.Subject.{IsImageFor}
 use Rattle.swi_task.proofs.Due.{left_empty}
 use Rattle.swi_cached_command.proofs.Tracing.{all_shown, last_is, shown_split, some_shown}
@@ -67,12 +69,14 @@ run_with o cache v p l input = cached_run cache o v (flat_start p l o.reports.ca
 no_memory : (o : RunOptions) (cache : Cache) (v : ImageData) (p : ProgramData) (l : Layout) (d : Devices) →
     RunsOver o cache v p l d d (Err refusal.Memory)
 no_memory o cache v p l d = record {
-  done = tt;
-  refused = tt;
-  quiet = λ _. refl;
-  failed = λ f. absurd f;
+  ran = record {
+    done = tt;
+    refused = tt;
+    quiet = λ _. refl;
+    failed = λ f. absurd f;
+    causes = calm_causes d d (Err refusal.Memory) tt refl refl refl;
+  };
   beyond = keeps_all _ d.ram;
-  causes = calm_causes d d (Err refusal.Memory) tt refl refl refl;
 }
 
 -- the causes of the board's devices, by the run's answer
@@ -130,12 +134,20 @@ failed_so o c d m r last broke words = record { broke = broke; fetched_at = word
 all_words : (c : CachedRun) (before after : RamState) → run.RamAfter c before after → FetchedFront (words_after c c.limit) before after
 all_words c before after h = ([], record { fetched = words_after c c.limit; are = h.fetched_at; front = append-nil (words_after c c.limit) })
 
--- the error sink failed at the line of a step, or behind all of its output
-at_line : (c : CachedRun) (n : ℕ) (d m : Devices) →
-    run.FailedAtLine c n (around_of d).devices (around_of m).devices ⊎ Appends d.output.held m.output.held ((program_after c n).output ++ (held_next (program_after c n)).output) →
-    FailedAtLine (told_after c n) ((told_after c n).error ++ told_line c.trace (program_after c n).machine) [] d m ⊎ Appends d.output.held m.output.held ((program_after c n).output ++ (held_next (program_after c n)).output)
-at_line c n d m (inl h) = inl (told_line c.trace (program_after c n).machine, refl, h.0, h.1, (h.2.0, to_nil d.error.held m.error.held _ h.2.1))
-at_line c n d m (inr all) = inr all
+-- what is called a failed source or sink by the board's answer is called so by the refusal
+names_of : (f : BoardFault) → AreNamed run.stream_names refusal_names f (refusal_of f)
+names_of f = record { source = λ e. ap refusal_of e; sink = λ e. ap refusal_of e; back = back f }
+  where
+    back : (f : BoardFault) → refusal_of f ≡ refusal.SourceFault → f ≡ board.SourceFault
+    back board.SourceFault e = refl
+    back board.RamFault e = let never : ⊥ = cc in absurd never
+    back board.SinkFault e = let never : ⊥ = cc in absurd never
+
+step_broke : (f : BoardFault) (c : CachedRun) (d m : Devices) → run.StreamFailed c f (around_of d) (around_of m) → StreamBroke c d m (refusal_of f) []
+step_broke f c d m h = record {
+  failed = record { steps = h.failed.steps; fewer = h.failed.fewer; failed = step_named (names_of f) h.failed.failed };
+  ram = h.ram;
+}
 
 ram_failed : {T : Type 0} (o : RunOptions) (cache : Cache) (v : ImageData) (p : ProgramData) (l : Layout) (d : Devices) (i : SourceState) (out e : SinkState) (ram : RamState) →
     KeepsBeyond cache.span d.ram ram →
@@ -143,108 +155,53 @@ ram_failed : {T : Type 0} (o : RunOptions) (cache : Cache) (v : ImageData) (p : 
     ((left : List ℕ) → d.input.left ≡ Some left → run.RamFailed (run_with o cache v p l left) (around_of d) (around_of (ran_all d i out e ram))) →
     BoardCauses {T = T} d (ran_all d i out e ram) (Err (stop.Fault board.RamFault)) → RunsOver o cache v p l d (ran_all d i out e ram) (Err refusal.RamFault)
 ram_failed {T} o cache v p l d i out e ram kept words broke h = record {
-  done = tt;
-  refused = tt;
-  quiet = λ never. absurd (never tt);
-  failed = λ _ left told.
-      let b = broke left told in
-      let c = run_with o cache v p l left in
-      failed_so o c d (ran_all d i out e ram) refusal.RamFault [] (inl (record {
-        fault = refl;
-        fetched = b.fetched;
-        fetches = b.fetches;
-        steps = b.steps;
-        within = b.within;
-        enough = b.enough;
-        longest = b.longest;
-        output = b.output;
-        begun = b.begun;
-        error = to_nil d.error.held e.held ((told_after c b.steps).error ++ (if b.begun then told_line c.trace (program_after c b.steps).machine else [])) b.error;
-        input = b.input;
-        last_failed = b.last_failed;
-      })) (words left told);
+  ran = record {
+    done = tt;
+    refused = tt;
+    quiet = λ never. absurd (never tt);
+    failed = λ _ left told.
+        let b = broke left told in
+        let c = run_with o cache v p l left in
+        failed_so o c d (ran_all d i out e ram) refusal.RamFault [] (inl (record {
+          fault = refl;
+          fetched = b.fetched;
+          fetches = b.fetches;
+          steps = b.steps;
+          within = b.within;
+          enough = b.enough;
+          longest = b.longest;
+          output = b.output;
+          begun = b.begun;
+          error = to_nil d.error.held e.held ((told_after c b.steps).error ++ (if b.begun then told_line c.trace (program_after c b.steps).machine else [])) b.error;
+          input = b.input;
+          last_failed = b.last_failed;
+        })) (words left told);
+    causes = stop_causes {T = T} (stop.Fault board.RamFault) d (ran_all d i out e ram) refl h;
+  };
   beyond = kept;
-  causes = stop_causes {T = T} (stop.Fault board.RamFault) d (ran_all d i out e ram) refl h;
 }
 
-source_failed : {T : Type 0} (o : RunOptions) (cache : Cache) (v : ImageData) (p : ProgramData) (l : Layout) (d : Devices) (i : SourceState) (out e : SinkState) (ram : RamState) →
-    KeepsBeyond cache.span d.ram ram →
-    ((left : List ℕ) → d.input.left ≡ Some left → FetchedFront (words_after (run_with o cache v p l left) o.limits.steps) d.ram ram) →
-    ((left : List ℕ) → d.input.left ≡ Some left → run.StepFailed (run_with o cache v p l left) board.SourceFault (around_of d) (around_of (ran_all d i out e ram))) →
-    BoardCauses {T = T} d (ran_all d i out e ram) (Err (stop.Fault board.SourceFault)) → RunsOver o cache v p l d (ran_all d i out e ram) (Err refusal.SourceFault)
-source_failed {T} o cache v p l d i out e ram kept words broke h = record {
-  done = tt;
-  refused = tt;
-  quiet = λ never. absurd (never tt);
-  failed = λ _ left told.
-      let b = broke left told in
-      let c = run_with o cache v p l left in
-      let none = b.unwritten refl in
-      failed_so o c d (ran_all d i out e ram) refusal.SourceFault [] (inr (inl (record {
-        failed = record {
-          steps = b.steps;
-          fewer = b.fewer;
-          failed = record {
-            fault = inl refl;
-            going = b.going;
-            output = (b.output_front, b.output);
-            error_front = b.error_front;
-            error = to_nil d.error.held e.held _ b.error;
-            source = λ _. (
-              front_none d.output.held out.held _ _ b.output_front none.0 b.output,
-              to_nil d.error.held e.held _ (subst (λ (x : List ℕ). Appends d.error.held e.held ((told_after c b.steps).error ++ x))
-                  (ap (λ (k : ℕ). take k (next_error c.trace (program_after c b.steps))) none.1
-                  ∙ take-append_seam (told_line c.trace (program_after c b.steps).machine) (held_next (program_after c b.steps)).error) b.error),
-            );
-            output_failed = λ rose. to_nil d.error.held e.held _ (b.output_failed rose);
-            error_failed = λ rose. at_line c b.steps d (ran_all d i out e ram) (b.error_failed rose);
-            unasked = b.unasked;
-            taken = b.taken;
-            no_more = let few : length b.taken + length (held_next (program_after c b.steps)).input ≤ length (program_after c b.steps).input = b.few in omega arith;
-            input = b.input;
-          };
-        };
-        ram = b.ram;
-      }))) (words left told);
-  beyond = kept;
-  causes = stop_causes {T = T} (stop.Fault board.SourceFault) d (ran_all d i out e ram) refl h;
-}
+run_fault : (f : BoardFault) → IsRunErr (refusal_of f) × IsRunFault (refusal_of f)
+run_fault board.RamFault = (tt, tt)
+run_fault board.SourceFault = (tt, tt)
+run_fault board.SinkFault = (tt, tt)
 
-sink_failed : {T : Type 0} (o : RunOptions) (cache : Cache) (v : ImageData) (p : ProgramData) (l : Layout) (d : Devices) (i : SourceState) (out e : SinkState) (ram : RamState) →
+device_failed : {T : Type 0} (f : BoardFault) (o : RunOptions) (cache : Cache) (v : ImageData) (p : ProgramData) (l : Layout) (d : Devices) (i : SourceState) (out e : SinkState) (ram : RamState) →
     KeepsBeyond cache.span d.ram ram →
     ((left : List ℕ) → d.input.left ≡ Some left → FetchedFront (words_after (run_with o cache v p l left) o.limits.steps) d.ram ram) →
-    ((left : List ℕ) → d.input.left ≡ Some left → run.StepFailed (run_with o cache v p l left) board.SinkFault (around_of d) (around_of (ran_all d i out e ram))) →
-    BoardCauses {T = T} d (ran_all d i out e ram) (Err (stop.Fault board.SinkFault)) → RunsOver o cache v p l d (ran_all d i out e ram) (Err refusal.SinkFault)
-sink_failed {T} o cache v p l d i out e ram kept words broke h = record {
-  done = tt;
-  refused = tt;
-  quiet = λ never. absurd (never tt);
-  failed = λ _ left told.
-      let b = broke left told in
-      let c = run_with o cache v p l left in
-      failed_so o c d (ran_all d i out e ram) refusal.SinkFault [] (inr (inl (record {
-        failed = record {
-          steps = b.steps;
-          fewer = b.fewer;
-          failed = record {
-            fault = inr refl;
-            going = b.going;
-            output = (b.output_front, b.output);
-            error_front = b.error_front;
-            error = to_nil d.error.held e.held _ b.error;
-            source = λ x. absurd (let bad : ⊥ = cc in bad);
-            output_failed = λ rose. to_nil d.error.held e.held _ (b.output_failed rose);
-            error_failed = λ rose. at_line c b.steps d (ran_all d i out e ram) (b.error_failed rose);
-            unasked = b.unasked;
-            taken = b.taken;
-            no_more = let few : length b.taken + length (held_next (program_after c b.steps)).input ≤ length (program_after c b.steps).input = b.few in omega arith;
-            input = b.input;
-          };
-        };
-        ram = b.ram;
-      }))) (words left told);
+    ((left : List ℕ) → d.input.left ≡ Some left → run.StreamFailed (run_with o cache v p l left) f (around_of d) (around_of (ran_all d i out e ram))) →
+    BoardCauses {T = T} d (ran_all d i out e ram) (Err (stop.Fault f)) → RunsOver o cache v p l d (ran_all d i out e ram) (Err (refusal_of f))
+device_failed {T} f o cache v p l d i out e ram kept words broke h = record {
+  ran = record {
+    done = tt;
+    refused = (run_fault f).0;
+    quiet = λ never. absurd (never (run_fault f).1);
+    failed = λ _ left told.
+        let c = run_with o cache v p l left in
+        failed_so o c d (ran_all d i out e ram) (refusal_of f) [] (inr (inl (step_broke f c d (ran_all d i out e ram) (broke left told)))) (words left told);
+    causes = stop_causes {T = T} (stop.Fault f) d (ran_all d i out e ram) refl h;
+  };
   beyond = kept;
-  causes = stop_causes {T = T} (stop.Fault board.SinkFault) d (ran_all d i out e ram) refl h;
 }
 
 -- there was no memory for it
@@ -269,8 +226,8 @@ run_stopped {T} {o} {cache} {v} {p} {l} {d} {i} {out} {e} {ram} f r is kept word
         memory_after o cache v p l d i out e ram
         (ap (λ (a : Around). a.ram) same, ap (λ (a : Around). a.devices.input) same, ap (λ (a : Around). a.devices.output) same, ap (λ (a : Around). a.devices.error) same)
     by (stop.Fault board.RamFault) memory broke causes = ram_failed {T = T} o cache v p l d i out e ram kept words (broke board.RamFault refl) causes
-    by (stop.Fault board.SourceFault) memory broke causes = source_failed {T = T} o cache v p l d i out e ram kept words (broke board.SourceFault refl) causes
-    by (stop.Fault board.SinkFault) memory broke causes = sink_failed {T = T} o cache v p l d i out e ram kept words (broke board.SinkFault refl) causes
+    by (stop.Fault board.SourceFault) memory broke causes = device_failed {T = T} board.SourceFault o cache v p l d i out e ram kept words (broke board.SourceFault refl) causes
+    by (stop.Fault board.SinkFault) memory broke causes = device_failed {T = T} board.SinkFault o cache v p l d i out e ram kept words (broke board.SinkFault refl) causes
 
 -- what stopped a run whose refusal `map_err(stop_refusal)?` hands on
 pub handed_on : {T : Type 0} (r : Result T CachedStop) (x : Refusal) → MatchResult r (λ y. ◌≡◌ {A = Result T Refusal} (Err x) (Ok y)) (λ f. x ≡ stop_refusal f) →
@@ -330,12 +287,14 @@ module _ {o : RunOptions} {cache : Cache} {v : ImageData} {p : ProgramData} {l :
       FailedAfterRun (told_after (of left) (of left).limit) (cached_report o (of left)) (last_lines o.reports.trace (of left)) d (ran_all d i out e ram) refusal.SinkFault []) →
       RunsOver o cache v p l d (ran_all d i out e ram) (Err refusal.SinkFault)
   behind out e causes broke = record {
-    done = tt;
-    refused = tt;
-    quiet = λ never. absurd (never tt);
-    failed = λ _ left told. failed_so o (of left) d (ran_all d i out e ram) refusal.SinkFault [] (inr (inr (broke left told, a.after left told))) (all_words (of left) d.ram ram (a.after left told));
+    ran = record {
+      done = tt;
+      refused = tt;
+      quiet = λ never. absurd (never tt);
+      failed = λ _ left told. failed_so o (of left) d (ran_all d i out e ram) refusal.SinkFault [] (inr (inr (broke left told, a.after left told))) (all_words (of left) d.ram ram (a.after left told));
+      causes = causes;
+    };
     beyond = kept;
-    causes = causes;
   }
 
   wrote : (left : List ℕ) → d.input.left ≡ Some left → board_report o h r ≡ cached_report o (of left)
@@ -386,11 +345,6 @@ module _ {o : RunOptions} {cache : Cache} {v : ImageData} {p : ProgramData} {l :
         fault = refl;
       })
     where
-      seam : (j : ℕ) (xs ys : List ℕ) → take (length (take j xs)) (xs ++ ys) ≡ take j xs
-      seam j xs ys =
-          ap (λ (l : List ℕ). take (length (take j xs)) (l ++ ys)) (sym (take-append-drop j xs))
-          ∙ ap (λ (l : List ℕ). take (length (take j xs)) l) (append_assoc (take j xs) (drop j xs) ys) ∙ take-append_seam (take j xs) (drop j xs ++ ys)
-
       err_causes : d.error.faults ≤ e.faults → Rose d.error.faults e.faults → HasCauses {T = Ending} d (ran_all d i out e ram) (Err refusal.SinkFault)
       err_causes later rose =
           let still : out.faults ≡ d.output.faults = same_out ∙ output_same in
@@ -406,25 +360,27 @@ module _ {o : RunOptions} {cache : Cache} {v : ImageData} {p : ProgramData} {l :
       Appends em.held e.held (last_told o.reports.trace bus (addresses_in history)) → e.faults ≡ em.faults → x ≡ ending_by h.machine.ending h.machine.pc h.machine.steps →
       RunsOver o cache v p l d (ran_all d i out e ram) (Ok x)
   run_ended {out} {e} {bus} {x} written same_out bus_is shown same_err ending = record {
-    done = λ left told.
-        let b = a.ended left told in record {
-          ran = record {
-            ending = ending ∙ ap (λ (m : Machine). ending_by m.ending m.pc m.steps) b.machine;
-            input = b.input;
-            output = Appends-append d.output.held mid.held out.held (end_of (of left)).output (cached_report o (of left)) b.output
-                (subst (λ (y : List ℕ). Appends mid.held out.held y) (wrote left told) written);
-            error = to_nil d.error.held e.held (shown_error o.reports.trace (of left))
-                (all_shown o.reports.trace (of left) d.error.held em.held e.held h.machine bus history bus_is b.machine (a.told left told) b.error shown);
+    ran = record {
+      done = λ left told.
+          let b = a.ended left told in record {
+            ran = record {
+              ending = ending ∙ ap (λ (m : Machine). ending_by m.ending m.pc m.steps) b.machine;
+              input = b.input;
+              output = Appends-append d.output.held mid.held out.held (end_of (of left)).output (cached_report o (of left)) b.output
+                  (subst (λ (y : List ℕ). Appends mid.held out.held y) (wrote left told) written);
+              error = to_nil d.error.held e.held (shown_error o.reports.trace (of left))
+                  (all_shown o.reports.trace (of left) d.error.held em.held e.held h.machine bus history bus_is b.machine (a.told left told) b.error shown);
+            };
+            cached = cached_run_is (of left) h r i.left d.output.held mid.held d.error.held em.held d.ram ram b (a.short left told) (a.after left told) (a.counted left);
           };
-          cached = cached_run_is (of left) h r i.left d.output.held mid.held d.error.held em.held d.ram ram b (a.short left told) (a.after left told) (a.counted left);
-        };
-    refused = tt;
-    quiet = tt;
-    failed = tt;
+      refused = tt;
+      quiet = tt;
+      failed = tt;
+      causes = calm_causes d (ran_all d i out e ram) (Ok x) tt refl quiet.ram_same
+          (ap (λ (n : ℕ). record (stream_faults d) { input = i.faults; output = n; error = e.faults }) same_out
+          ∙ ap (λ (n : ℕ). record (stream_faults d) { input = i.faults; output = mid.faults; error = n }) same_err ∙ quiet.streams);
+    };
     beyond = kept;
-    causes = calm_causes d (ran_all d i out e ram) (Ok x) tt refl quiet.ram_same
-        (ap (λ (n : ℕ). record (stream_faults d) { input = i.faults; output = n; error = e.faults }) same_out
-        ∙ ap (λ (n : ℕ). record (stream_faults d) { input = i.faults; output = mid.faults; error = n }) same_err ∙ quiet.streams);
   }
 
 -- ---- from the run of a file's program to the command's answer
@@ -459,27 +415,7 @@ left_again o k d m s r h = failed_so o k d m r [] (elim h.broke [
     last_failed = a.last_failed;
   })
   | inr b ↦ inr (elim b [
-    | inl a ↦ inl (record {
-      failed = record {
-        steps = a.failed.steps;
-        fewer = a.failed.fewer;
-        failed = let f = a.failed.failed in record {
-          fault = f.fault;
-          going = f.going;
-          output = f.output;
-          error_front = f.error_front;
-          error = f.error;
-          source = f.source;
-          output_failed = f.output_failed;
-          error_failed = f.error_failed;
-          unasked = f.unasked;
-          taken = f.taken;
-          no_more = f.no_more;
-          input = f.input;
-        };
-      };
-      ram = a.ram;
-    })
+    | inl a ↦ inl (record { failed = a.failed; ram = a.ram })
     | inr p ↦ let a = p.0 in inr (record { output_front = a.output_front; output = a.output; error_front = a.error_front; error = a.error; behind = a.behind; input = a.input; fault = a.fault }, p.1)
   ])
 ]) h.fetched_at
@@ -502,22 +438,22 @@ cached_answers name cache o d s i out e ram bytes v l (Ok x) size read accepted 
         own,
         run.beyond,
         λ input left. done_again o _ d m s x
-            (subst (λ (q : FlatState). RunsCached o (cached_run (cache_for cache v) o v q) (record d { shelf = s }) m x []) (start_is o bytes input l room) (run.done input left)),
+            (subst (λ (q : FlatState). RunsCached o (cached_run (cache_for cache v) o v q) (record d { shelf = s }) m x []) (start_is o bytes input l room) (run.ran.done input left)),
       );
       failed = tt;
       refused = tt;
       shelf = keeps_read (cached_task name cache o) d.shelf s name bytes (Ok x) refl refl read (refl, refl) refl (λ y. let never : ⊥ = cc in never);
       input = tt;
       ram = keeps_run cache v d.ram ram run.beyond;
-      causes = causes_behind d s m (Ok x) read.faults run.causes;
+      causes = causes_behind d s m (Ok x) read.faults run.ran.causes;
     }
 cached_answers name cache o d s i out e ram bytes v l (Err r) size read accepted own room run =
     let m : Devices = cached_to d s i out e ram in record {
-      asked = run_err_not r refusal.Usage run.refused (λ x. x);
-      sized = sized_along (size_refusal cache.cache_bytes (length d.ram.words)) (Err r) size (sized_err r (run_err_size r run.refused));
+      asked = run_err_not r refusal.Usage run.ran.refused (λ x. x);
+      sized = sized_along (size_refusal cache.cache_bytes (length d.ram.words)) (Err r) size (sized_err r (run_err_size r run.ran.refused));
       checked = λ file are. subst (λ (f : List ℕ). IsChecked (cached_checks o.limits cache f) s.last_failed (Err r)) (read_is read are refl)
-          (run_err_checked (cached_checks o.limits cache bytes) s.last_failed r run.refused accepted);
-      long = none_long (cached_task name cache o) d.shelf.contents r (run_err_short r run.refused);
+          (run_err_checked (cached_checks o.limits cache bytes) s.last_failed r run.ran.refused accepted);
+      long = none_long (cached_task name cache o) d.shelf.contents r (run_err_short r run.ran.refused);
       ended = tt;
       done = tt;
       failed = λ fault file are. subst (λ (f : List ℕ). (cached_task name cache o).fails f d m r []) (read_is read are refl) (
@@ -525,16 +461,16 @@ cached_answers name cache o d s i out e ram bytes v l (Err r) size read accepted
         own,
         run.beyond,
         λ input left. left_again o _ d m s r
-            (subst (λ (q : FlatState). CachedFailed o (cached_run (cache_for cache v) o v q) (record d { shelf = s }) m r []) (start_is o bytes input l room) (run.failed fault input left)),
+            (subst (λ (q : FlatState). CachedFailed o (cached_run (cache_for cache v) o v q) (record d { shelf = s }) m r []) (start_is o bytes input l room) (run.ran.failed fault input left)),
       );
-      refused = λ never. let same_all : m ≡ record d { shelf = s } = run.quiet never in (
+      refused = λ never. let same_all : m ≡ record d { shelf = s } = run.ran.quiet never in (
         record { input = ap (λ (y : Devices). y.input) same_all; output = ap (λ (y : Devices). y.output) same_all; ram = ap (λ (y : Devices). y.ram) same_all },
         subst (λ (y : SinkState). Appends d.error.held y.held []) (sym (ap (λ (y : Devices). y.error) same_all)) (Appends-none d.error.held),
       );
-      shelf = keeps_read (cached_task name cache o) d.shelf s name bytes (Err r) refl refl read (run_err_asked s.last_failed r run.refused) (run_err_given s.last_failed r run.refused) (run_err_not r refusal.ShelfFault run.refused (λ x. x));
+      shelf = keeps_read (cached_task name cache o) d.shelf s name bytes (Err r) refl refl read (run_err_asked s.last_failed r run.ran.refused) (run_err_given s.last_failed r run.ran.refused) (run_err_not r refusal.ShelfFault run.ran.refused (λ x. x));
       input = tt;
       ram = keeps_run cache v d.ram ram run.beyond;
-      causes = causes_behind d s m (Err r) read.faults run.causes;
+      causes = causes_behind d s m (Err r) read.faults run.ran.causes;
     }
 
 -- ---- the last line behind it
@@ -557,13 +493,12 @@ ram_line c d m r held line h p = record {
 }
 
 step_lined : (c : CachedRun) (d m : Devices) (r : Refusal) (held : Option (List ℕ)) (line : List ℕ) →
-    StepBroke c d m r [] → Appends m.error.held held line → StepBroke c d (holds_then m held) r line
+    StreamBroke c d m r [] → Appends m.error.held held line → StreamBroke c d (holds_then m held) r line
 step_lined c d m r held line h p = record {
   failed = record {
     steps = h.failed.steps;
     fewer = h.failed.fewer;
-    failed = step_line (told_after c h.failed.steps) ((told_after c h.failed.steps).error ++ told_line c.trace (program_after c h.failed.steps).machine) (told_next c.trace (told_after c h.failed.steps))
-        (held_taken (told_after c h.failed.steps)) d m r held line h.failed.failed p;
+    failed = step_line ((run.told_steps c).coming h.failed.steps) d m r held line h.failed.failed p;
   };
   ram = h.ram;
 }

@@ -1,5 +1,5 @@
 -- The commands `cached` and `trace`: a run on the cached machine.
-use Rattle.std.specs.Prelude.{◌≡◌, ◌⊎◌, ℕ, ◌+◌, ◌<◌, ◌≤◌, List, [], ◌∷◌, ◌++◌, Bool, true, if◌then◌else◌, Option, Some, None, Result, IfOk, IfErr, ⊤}
+use Rattle.std.specs.Prelude.{◌≡◌, ◌⊎◌, ℕ, ◌+◌, ◌<◌, ◌≤◌, List, [], ◌∷◌, ◌++◌, Bool, true, if◌then◌else◌, Option, Some, None, Result, ⊤}
 use Rattle.std.specs.Io.KnownBytes.{Appends}
 use Rattle.swi_outside.specs.CacheRam.{KeepsBeyond}
 use Rattle.swi_outside.specs.Causes.{risen}
@@ -13,24 +13,23 @@ use Rattle.swi_command.specs.declared.command.RunOptions.{RunOptions}
 use Rattle.swi_line.specs.declared.trace.Trace.{Trace}
 use Rattle.swi_line.specs.declared.trace.Trace.TheVariants as trace
 use Rattle.swi_calls.specs.State.{FlatState}
-use Rattle.swi_calls.specs.Flat.{Made, flat_start}
+use Rattle.swi_calls.specs.Flat.{flat_start}
 use Rattle.swi_rom.specs.Service.{Cache}
 use Rattle.swi_trace.specs.History.{last_of}
-use Rattle.swi_cached.specs.Answers.{RamAfter, RamWithin}
+use Rattle.swi_cached.specs.Answers.{RamAfter, RamWithin, told_steps}
 use Rattle.swi_cached.specs.Cached.{CachedRun, IsFlatRun, StopsBeforeStore, end_of, program_after, told_after, fetches_after, words_after}
 use Rattle.swi_board.specs.Fetching.{FetchedFront}
-use Rattle.swi_cached.specs.Told.{addresses, lines_at, next_error, told_line}
+use Rattle.swi_cached.specs.Told.{addresses, lines_at, told_line}
 use Rattle.swi_cached.specs.declared.run.CachedStop.{CachedStop}
 use Rattle.swi_cached.specs.declared.run.CachedStop.TheVariants as stop
 use Rattle.swi_answer.specs.declared.answer.Ending.{Ending}
 use Rattle.swi_answer.specs.declared.answer.Refusal.{Refusal}
 use Rattle.swi_answer.specs.declared.answer.Refusal.TheVariants as refusal
-use Rattle.swi_task.specs.Answers.{IsRunFault}
-use Rattle.swi_cached_task.specs.Caching.{IsCachedRun, IsRunErr, cache_for, cached_run, held_next, held_taken, work_of}
+use Rattle.swi_cached_task.specs.Caching.{IsCachedRun, cache_for, cached_run, work_of}
 use Rattle.swi_cached_task.specs.Placing.{cached_checks}
-use Rattle.swi_task.specs.Causes.{HasCauses}
 use Rattle.swi_task.specs.Checks.{InRam}
 use Rattle.swi_task.specs.Devices.{Devices}
+use Rattle.swi_task.specs.Over.{IsRunErr, RanOver}
 use Rattle.swi_task.specs.Runs.{Ran, FailedAtStep, FailedAfterRun, refusal_of, report, start_of}
 use Rattle.swi_task.specs.Subject.{IsImageFor}
 use Rattle.swi_task.specs.Task.{Task}
@@ -77,20 +76,16 @@ pub record RamBroke (c : CachedRun) (before after : Devices) (r : Refusal) (last
   -- no call of the ram comes behind the one that failed
   pub last_failed : after.ram.last_failed ≡ true
 
--- the next step over the fixed text, with its line first, where it is told
-abbrev pub told_next : Bool → FlatState → Made
-told_next each s = record (held_next s) { error = next_error each s }
-
 -- A source or a sink failed at a step: the ram was asked for what the steps made before it ask, and for no more than this one does.
-pub record StepBroke (c : CachedRun) (before after : Devices) (r : Refusal) (last : List ℕ) : Type 0 where
-  pub failed : FailedAtStep (told_after c) (λ s. s.error ++ told_line c.trace s.machine) (told_next c.trace) held_taken c.limit before after r last
+pub record StreamBroke (c : CachedRun) (before after : Devices) (r : Refusal) (last : List ℕ) : Type 0 where
+  pub failed : FailedAtStep (told_steps c) before after r last
   pub ram : RamWithin c failed.steps before.ram after.ram
 
 -- a device failed in the run, or behind it
 abbrev pub BrokeIn : RunOptions → CachedRun → Devices → Devices → Refusal → List ℕ → Type 0
 BrokeIn o c before after r last =
     RamBroke c before after r last
-    ⊎ (StepBroke c before after r last
+    ⊎ (StreamBroke c before after r last
     ⊎ (FailedAfterRun (told_after c c.limit) (cached_report o c) (last_lines o.reports.trace c) before after r last × RamAfter c before.ram after.ram))
 
 pub record CachedFailed (o : RunOptions) (c : CachedRun) (before after : Devices) (r : Refusal) (last : List ℕ) : Type 0 where
@@ -127,15 +122,13 @@ abbrev pub stop_refusal : CachedStop → Refusal
 stop_refusal stop.Memory = refusal.Memory
 stop_refusal (stop.Fault fault) = refusal_of fault
 
--- what such a run does: it comes to its end, or a device fails in it or behind it; or there was no memory
+-- what such a run does, whatever its input tells
 pub record RunsOver (o : RunOptions) (k : Cache) (v : ImageData) (p : ProgramData) (l : Layout) (before after : Devices) (result : Result Ending Refusal) : Type 0 where
-  pub done : IfOk result (λ e. (input : List ℕ) → before.input.left ≡ Some input → RunsCached o (cached_run k o v (flat_start p l o.reports.calls input)) before after e [])
-  pub refused : IfErr result IsRunErr
-  pub quiet : IfErr result (λ r. (IsRunFault r → ⊥) → after ≡ before)
-  pub failed : IfErr result (λ r. IsRunFault r → (input : List ℕ) → before.input.left ≡ Some input →
-      CachedFailed o (cached_run k o v (flat_start p l o.reports.calls input)) before after r [])
+  pub ran : RanOver IsRunErr
+      (λ e. (input : List ℕ) → before.input.left ≡ Some input → RunsCached o (cached_run k o v (flat_start p l o.reports.calls input)) before after e [])
+      (λ r. (input : List ℕ) → before.input.left ≡ Some input → CachedFailed o (cached_run k o v (flat_start p l o.reports.calls input)) before after r [])
+      before after result
   pub beyond : KeepsBeyond k.span before.ram after.ram
-  pub causes : HasCauses before after result
 
 -- a list of the address, if there is one
 abbrev pub one_of : Option ℕ → List ℕ

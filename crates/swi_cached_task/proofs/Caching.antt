@@ -1,8 +1,6 @@
 -- Lemmas on a run of the cached machine that its commands share.
-use Rattle.std.proofs.Common.{◌≡◌, ℕ, ◌+◌, ◌-◌, ◌*◌, ◌/◌, ◌^◌, ◌≤◌, min, List, [], ◌++◌, take, Option, Err, IsErrOf, refl, sym, ◌∙◌, subst, ap, arith}
+use Rattle.std.proofs.Common.{◌≡◌, ℕ, ◌+◌, ◌-◌, ◌*◌, ◌/◌, ◌^◌, ◌≤◌, min, List, Option, Err, IsErrOf, refl, sym, ◌∙◌, subst, ap, arith}
 use Rattle.std.proofs.Math.Nat.{div-mul-le_self}
-use Rattle.std.proofs.lemmas.List.{append-nil}
-use Rattle.std.specs.Io.KnownBytes.{Appends}
 use Rattle.swi_outside.specs.Causes.{risen}
 use Rattle.swi_outside.specs.CacheRam.{KeepsBeyond, RamState}
 use Rattle.swi_outside.specs.Shelf.{Asked, ShelfState}
@@ -26,9 +24,10 @@ use Rattle.swi_answer.specs.declared.answer.Ending.{Ending}
 use Rattle.swi_answer.specs.declared.answer.Refusal.{Refusal}
 use Rattle.swi_answer.specs.declared.answer.Refusal.TheVariants as refusal
 use Rattle.swi_task.specs.Answers.{AreGiven, IsAskedFor, IsChecked, IsSizeRefusal}
-use Rattle.swi_cached_task.specs.Caching.{IsCachedRun, IsRunErr, RamCounted, board_work, cache_by, cache_for, work_of}
+use Rattle.swi_cached_task.specs.Caching.{IsCachedRun, RamCounted, board_work, cache_by, cache_for, work_of}
 use Rattle.swi_task.specs.Checks.{Check, IsAccepted}
 use Rattle.swi_task.specs.Devices.{Devices}
+use Rattle.swi_task.specs.Over.{IsRunErr}
 use Rattle.swi_task.specs.Runs.{ending_by}
 use Rattle.swi_task.proofs.Refusals.{IsTooLong}
 
@@ -41,14 +40,6 @@ ran_all d i o e ram = record d { input = i; output = o; error = e; ram = ram }
 -- the devices after the command
 abbrev pub cached_to : Devices → ShelfState → SourceState → SinkState → SinkState → RamState → Devices
 cached_to d s i out e ram = record d { shelf = s; input = i; output = out; error = e; ram = ram }
-
-pub to_nil : (a b : Option (List ℕ)) (x : List ℕ) → Appends a b x → Appends a b (x ++ [])
-to_nil a b x h = subst (λ (y : List ℕ). Appends a b y) (sym (append-nil x)) h
-
-pub front_none : (a b : Option (List ℕ)) (x y : List ℕ) (n : ℕ) → n ≡ 0 → Appends a b (x ++ take n y) → Appends a b x
-front_none a b x y n zero h =
-    let all : Appends a b (x ++ []) = subst (λ (k : ℕ). Appends a b (x ++ take k y)) zero h in
-    subst (λ (z : List ℕ). Appends a b z) (append-nil x) all
 
 -- how it ended, as its board says it
 pub ending_is : {x : Ending} {e f : Option End} {a b n m : ℕ} → x ≡ ending_by e a n → e ≡ f → a ≡ b → n ≡ m → x ≡ ending_by f b m

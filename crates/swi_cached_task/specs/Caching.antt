@@ -1,5 +1,5 @@
 -- A run on the cached machine, whatever asked for it: its cache, its counts, and what it leaves of the ram.
-use Rattle.std.specs.Prelude.{◌≡◌, ℕ, ◌+◌, ◌-◌, ◌*◌, ◌^◌, ◌≤◌, length, min, Option, Some, ⊤}
+use Rattle.std.specs.Prelude.{◌≡◌, ℕ, ◌+◌, ◌-◌, ◌*◌, ◌^◌, ◌≤◌, min, Option, Some}
 use Rattle.swi_outside.specs.CacheRam.{RamState}
 use Rattle.swi_outside.specs.Causes.{risen}
 use Rattle.swi_image.specs.Format.{ImageData}
@@ -8,8 +8,6 @@ use Rattle.swi_command.specs.declared.command.CacheKind.TheVariants as kind
 use Rattle.swi_command.specs.declared.command.CacheOptions.{CacheOptions}
 use Rattle.swi_command.specs.declared.command.RunOptions.{RunOptions}
 use Rattle.swi_calls.specs.State.{FlatState}
-use Rattle.swi_calls.specs.Flat.{Made}
-use Rattle.swi_calls.specs.Held.{held_made}
 use Rattle.swi_calls.specs.declared.end.End.{End}
 use Rattle.swi_calls.specs.declared.end.End.TheVariants as end
 use Rattle.swi_rom.specs.Record.{Record, writes}
@@ -20,8 +18,6 @@ use Rattle.swi_cached.specs.Slotted.{slotted}
 use Rattle.swi_cached.specs.Ringed.{ringed}
 use Rattle.swi_cached.specs.Told.{is_each}
 use Rattle.swi_report.specs.declared.stats.Work.{Work}
-use Rattle.swi_answer.specs.declared.answer.Refusal.{Refusal}
-use Rattle.swi_answer.specs.declared.answer.Refusal.TheVariants as refusal
 
 -- the cache of a kind, of so many bytes: slots of a block each, or a ring of blocks of their own length; first in, first out
 abbrev pub cache_by : CacheKind → ℕ → ImageData → Cache
@@ -75,20 +71,3 @@ pub record IsCachedRun (c : CachedRun) (before after : RamState) : Type 0 where
   pub each : IsCounted c
   -- by the definitions the words of the ram that a run fetches are as many as are counted
   pub words : AreCounted c
-
--- ---- where a device failed
-
--- the next step over the fixed text, and the most bytes that it takes
-abbrev pub held_next : FlatState → Made
-held_next s = held_made s.machine s.input
-
-abbrev pub held_taken : FlatState → ℕ
-held_taken s = length s.input - length (held_next s).input
-
--- why a run over a service is refused
-abbrev pub IsRunErr : Refusal → Type 0
-IsRunErr refusal.SourceFault = ⊤
-IsRunErr refusal.SinkFault = ⊤
-IsRunErr refusal.RamFault = ⊤
-IsRunErr refusal.Memory = ⊤
-IsRunErr _ = ⊥

@@ -9,7 +9,6 @@ use Rattle.swi_outside.specs.Source.{SourceState}
 use Rattle.swi_memory.specs.declared.layout.Layout.{Layout}
 use Rattle.swi_calls.specs.Flat.{flat_run}
 use Rattle.swi_calls.specs.State.{FlatState}
-use Rattle.swi_flat.specs.FlatData.{next_made}
 use Rattle.swi_program.specs.Program.{ProgramData}
 use Rattle.swi_program.specs.ProgramOf.{program_of_file}
 use Rattle.swi_answer.specs.declared.answer.Ending.{Ending}
@@ -17,9 +16,9 @@ use Rattle.swi_answer.specs.Lines.{ending_line}
 use Rattle.swi_answer.specs.declared.answer.Refusal.{Refusal}
 use Rattle.swi_answer.specs.declared.answer.Refusal.TheVariants as refusal
 use Rattle.swi_task.specs.Devices.{Devices}
-use Rattle.swi_task.specs.Answers.{Answers, AreGiven, IsAskedFor, IsChecked, IsRunFault, IsSized}
+use Rattle.swi_task.specs.Answers.{Answers, AreGiven, IsAskedFor, IsChecked, IsSized}
 use Rattle.swi_task.specs.Checks.{Check, IsAccepted, room_in}
-use Rattle.swi_file_commands.specs.RunFlat.{FlatCommand, RunsFlat, flat_checks, flat_task, limit_of, read_room_of, run_of, told_of}
+use Rattle.swi_file_commands.specs.RunFlat.{FlatCommand, IsFlatErr, RunsFlat, flat_checks, flat_task, limit_of, run_of, told_of, untold_steps}
 use Rattle.swi_task.specs.Runs.{Ran, FailedAtStep, FailedAfterRun}
 use Rattle.swi_task.proofs.Starts.{start_is}
 use Rattle.swi_task.proofs.Lines.{IsLined, after_line, after_run_line, at_step_line, ran_line}
@@ -31,33 +30,18 @@ RanFrom c p s before after e = Ran (flat_run (limit_of c) s) (c.told p s) before
 
 abbrev pub FailedFrom : FlatCommand → ProgramData → FlatState → Devices → Devices → Refusal → Type 0
 FailedFrom c p s before after r =
-    FailedAtStep (λ n. flat_run n s) (λ q. q.error) next_made read_room_of (limit_of c) before after r []
+    FailedAtStep (untold_steps (λ n. flat_run n s) (limit_of c)) before after r []
     ⊎ FailedAfterRun (flat_run (limit_of c) s) (c.told p s) [] before after r []
 
 -- the devices after the command
 abbrev pub ran_to : Devices → ShelfState → SourceState → SinkState → SinkState → Devices
 ran_to d s i o e = record d { shelf = s; input = i; output = o; error = e }
 
-flat_err_checked : (checks : List Check) (last : Option Asked) (r : Refusal) →
-    (r ≡ refusal.SourceFault) ⊎ ((r ≡ refusal.SinkFault) ⊎ (r ≡ refusal.Memory)) → IsAccepted checks → IsChecked checks last (Err r)
-flat_err_checked checks last r kind accepted =
-    let Goal : Refusal → Type 0 = λ x. IsChecked checks last (Err x) in
-    elim kind [
-      | inl e ↦ subst Goal (sym e) accepted
-      | inr k ↦ elim k [ inl e ↦ subst Goal (sym e) accepted | inr e ↦ subst Goal (sym e) tt ]
-    ]
-
-abbrev IsFlatErr : Refusal → Type 0
-IsFlatErr refusal.SourceFault = Unit {0}
-IsFlatErr refusal.SinkFault = Unit {0}
-IsFlatErr refusal.Memory = Unit {0}
-IsFlatErr _ = ⊥
-
-flat_err : (r : Refusal) → (r ≡ refusal.SourceFault) ⊎ ((r ≡ refusal.SinkFault) ⊎ (r ≡ refusal.Memory)) → IsFlatErr r
-flat_err r kind = elim kind [
-  | inl e ↦ subst IsFlatErr (sym e) tt
-  | inr k ↦ elim k [ inl e ↦ subst IsFlatErr (sym e) tt | inr e ↦ subst IsFlatErr (sym e) tt ]
-]
+flat_err_checked : (checks : List Check) (last : Option Asked) (r : Refusal) → IsFlatErr r → IsAccepted checks → IsChecked checks last (Err r)
+flat_err_checked checks last refusal.SourceFault h accepted = accepted
+flat_err_checked checks last refusal.SinkFault h accepted = accepted
+flat_err_checked checks last refusal.Memory h accepted = tt
+flat_err_checked checks last _ h accepted = absurd h
 
 flat_size : (r : Refusal) → IsFlatErr r → IsSized None (Err r)
 flat_size refusal.SourceFault h = sized_err refusal.SourceFault (λ x. x)
@@ -86,15 +70,6 @@ flat_short refusal.SinkFault h long = long
 flat_short refusal.Memory h long = long
 flat_short _ h long = h
 
-flat_memory : (r : Refusal) → IsFlatErr r → (IsRunFault r → ⊥) → r ≡ refusal.Memory
-flat_memory refusal.SourceFault h never = absurd (never tt)
-flat_memory refusal.SinkFault h never = absurd (never tt)
-flat_memory refusal.Memory h never = refl
-flat_memory _ h never = absurd h
-
-run_not_memory : (r : Refusal) → IsRunFault r → r ≡ refusal.Memory → ⊥
-run_not_memory r f e = subst IsRunFault e f
-
 pub flat_ok : (name : List ℕ) (c : FlatCommand) (d : Devices) (s : ShelfState) (i : SourceState) (out e : SinkState) (bytes : List ℕ) (l : Layout) (x : Ending) →
     IsRead d.shelf s name bytes → IsAccepted (flat_checks c.options.limits bytes) → room_in bytes c.options.limits ≡ Ok l →
     RunsFlat c (program_of_file bytes) l (record d { shelf = s }) (ran_to d s i out e) (Ok x) →
@@ -118,24 +93,7 @@ flat_ok name c d s i out e bytes l x read accepted room run = record {
 
 failed_again : (c : FlatCommand) (p : ProgramData) (q : FlatState) (d m : Devices) (s : ShelfState) (r : Refusal) → FailedFrom c p q (record d { shelf = s }) m r → FailedFrom c p q d m r
 failed_again c p q d m s r h = elim h [
-  | inl a ↦ inl (record {
-    steps = a.steps;
-    fewer = a.fewer;
-    failed = let f = a.failed in record {
-      fault = f.fault;
-      going = f.going;
-      output = f.output;
-      error_front = f.error_front;
-      error = f.error;
-      source = f.source;
-      output_failed = f.output_failed;
-      error_failed = f.error_failed;
-      unasked = f.unasked;
-      taken = f.taken;
-      no_more = f.no_more;
-      input = f.input;
-    };
-  })
+  | inl a ↦ inl a
   | inr a ↦ inr (record { output_front = a.output_front; output = a.output; error_front = a.error_front; error = a.error; behind = a.behind; input = a.input; fault = a.fault })
 ]
 
@@ -144,18 +102,18 @@ pub flat_refused : (name : List ℕ) (c : FlatCommand) (d : Devices) (s : ShelfS
     RunsFlat c (program_of_file bytes) l (record d { shelf = s }) (ran_to d s i out e) (Err r) →
     Answers (flat_task name c) d (ran_to d s i out e) (Err r) []
 flat_refused name c d s i out e bytes l r read accepted room run =
-    let kind = flat_err r run.refused in record {
+    let kind = run.refused in record {
       asked = λ y. let p : r ≡ refusal.Usage = cc in subst IsFlatErr p kind;
       sized = flat_size r kind;
       checked = λ file are. subst (λ (f : List ℕ). IsChecked (flat_checks c.options.limits f) s.last_failed (Err r)) (read_is read are refl)
-          (flat_err_checked (flat_checks c.options.limits bytes) s.last_failed r run.refused accepted);
+          (flat_err_checked (flat_checks c.options.limits bytes) s.last_failed r kind accepted);
       long = none_long (flat_task name c) d.shelf.contents r (flat_short r kind);
       ended = tt;
       done = tt;
       failed = λ fault file are. subst (λ (f : List ℕ). (flat_task name c).fails f d (ran_to d s i out e) r []) (read_is read are refl)
           (λ input left. subst (λ (q : FlatState). FailedFrom c (program_of_file bytes) q d (ran_to d s i out e) r) (start_is c.options bytes input l room)
-          (failed_again c (program_of_file bytes) _ d (ran_to d s i out e) s r (run.failed (run_not_memory r fault) input left)));
-      refused = λ never. let same_all : ran_to d s i out e ≡ record d { shelf = s } = run.memory (ap (λ (y : Refusal). Err y) (flat_memory r kind never)) in (
+          (failed_again c (program_of_file bytes) _ d (ran_to d s i out e) s r (run.failed fault input left)));
+      refused = λ never. let same_all : ran_to d s i out e ≡ record d { shelf = s } = run.quiet never in (
         record { input = ap (λ (y : Devices). y.input) same_all; output = ap (λ (y : Devices). y.output) same_all; ram = refl },
         subst (λ (y : SinkState). Appends d.error.held y.held []) (sym (ap (λ (y : Devices). y.error) same_all)) (Appends-none d.error.held),
       );
@@ -178,7 +136,7 @@ pub flat_lined : (name : List ℕ) (c : FlatCommand) → IsLined (flat_task name
 flat_lined name c = record {
   done = λ file d m e error is h p same input left. ran_line _ _ d m e error (ending_line e) (h input left) p;
   failed = λ file d m r held line h p input is. elim (h input is) [
-    | inl a ↦ inl (at_step_line (run_of c file input) _ _ _ (limit_of c) d m r held line a p)
+    | inl a ↦ inl (at_step_line (untold_steps (run_of c file input) (limit_of c)) d m r held line a p)
     | inr a ↦ inr (after_run_line (run_of c file input (limit_of c)) (told_of c file input) [] d m r held line a p)
   ];
   unended = λ file d m e error is h p never same rose input left.

@@ -22,9 +22,10 @@ use Rattle.swi_command.specs.declared.command.RunOptions.{RunOptions}
 use Rattle.swi_answer.specs.declared.answer.Ending.{Ending}
 use Rattle.swi_answer.specs.declared.answer.Refusal.{Refusal}
 use Rattle.swi_answer.specs.declared.answer.Refusal.TheVariants as refusal
-use Rattle.swi_task.specs.Devices.{Devices, stream_faults}
+use Rattle.swi_task.specs.Devices.{Devices, stream_faults, streams_of}
+use Rattle.swi_task.specs.Answers.{IsRunFault}
 use Rattle.swi_task.specs.Causes.{HasCauses}
-use Rattle.swi_file_commands.specs.RunFlat.{FlatCommand, RunsFlat, limit_of, read_room_of, run_from, start_from}
+use Rattle.swi_file_commands.specs.RunFlat.{FlatCommand, IsFlatErr, RunsFlat, flat_coming, limit_of, read_room_of, run_from, start_from}
 use Rattle.swi_file_commands.specs.RunPlain.{plain_command, plain_report}
 use Rattle.swi_task.specs.Runs.{FailedAfterRun, Ran, StepFailed, ending_by, report}
 use Rattle.swi_task.proofs.Refusals.{calm_causes, causes_of, out_causes}
@@ -53,7 +54,7 @@ pub step_failed : {T : Type 0} (f : CallFault) (s : FlatState) (bus : List AreaD
     (IsErrOf {T = T} (Err f) call.SourceFault → Appends before.output.held after.output.held s.output × Appends before.error.held after.error.held s.error) →
     ((after.output.faults ≡ before.output.faults → ⊥) → Appends before.error.held after.error.held s.error) →
     ((after.error.faults ≡ before.error.faults → ⊥) → Appends before.output.held after.output.held (s.output ++ (next_made s).output)) →
-    FillsFrontTold s bus after.input.left → Unasked (next_made s) (stream_faults before) (stream_faults after) → StepFailed s s.error (next_made s) (read_room_of s) before after (refusal_of f) []
+    FillsFrontTold s bus after.input.left → Unasked (next_made s) (stream_faults before) (stream_faults after) → StepFailed (flat_coming s) before after (refusal_of f) []
 step_failed {T} f s bus before after going output error source first behind front unasked = record {
   fault = named f;
   going = going;
@@ -91,27 +92,23 @@ pub start_same : (c : FlatCommand) (p : ProgramData) (l : Layout) (f : FlatData)
 start_same c p l f n left is =
     ap (λ (x : FlatData). state_at n x.machine left) is ∙ from_none (machine_of p l c.options.reports.calls) n left refl
 
-kind_of : (f : CallFault) → (refusal_of f ≡ refusal.SourceFault) ⊎ ((refusal_of f ≡ refusal.SinkFault) ⊎ (refusal_of f ≡ refusal.Memory))
-kind_of call.SourceFault = inl refl
-kind_of call.SinkFault = inr (inl refl)
+kind_of : (f : CallFault) → IsFlatErr (refusal_of f)
+kind_of call.SourceFault = tt
+kind_of call.SinkFault = tt
 
-not_memory : {T : Type 0} (f : CallFault) → IsErrOf {T = T} (Err (refusal_of f)) refusal.Memory → ⊥
-not_memory call.SourceFault e = let bad : ⊥ = cc in bad
-not_memory call.SinkFault e = let bad : ⊥ = cc in bad
+run_fault : (f : CallFault) → IsRunFault (refusal_of f)
+run_fault call.SourceFault = tt
+run_fault call.SinkFault = tt
 
 -- there was no memory, and nothing changed
 pub no_memory : (c : FlatCommand) (p : ProgramData) (l : Layout) (d : Devices) → RunsFlat c p l d d (Err refusal.Memory)
 no_memory c p l d = record {
   done = tt;
-  refused = inr (inr refl);
-  memory = λ _. refl;
-  failed = λ never. absurd (never refl);
+  refused = tt;
+  quiet = λ _. refl;
+  failed = λ fault. absurd fault;
   causes = calm_causes d d (Err refusal.Memory) tt refl refl refl;
 }
-
--- the streams of all devices
-abbrev pub streams_of : Devices → outside.Devices
-streams_of d = record { input = d.input; output = d.output; error = d.error }
 
 pub run_failed : (f : CallFault) (c : FlatCommand) (p : ProgramData) (l : Layout) (first new : FlatData) (d : Devices) (i : SourceState) (out e : SinkState) →
     first ≡ unfailed (machine_of p l c.options.reports.calls) → RanTold first.machine (limit_of c) new (streams_of d) (streams_of (run_to d i out e)) (Err f) →
@@ -119,14 +116,14 @@ pub run_failed : (f : CallFault) (c : FlatCommand) (p : ProgramData) (l : Layout
 run_failed f c p l first new d i out e first_is ran = record {
   done = tt;
   refused = kind_of f;
-  memory = λ x. absurd (not_memory f x);
+  quiet = λ never. absurd (never (run_fault f));
   failed = λ _ input left. inl (record {
     steps = new.machine.steps;
     fewer = ran.uncounted;
     failed =
         let state = state_at new.machine.steps first.machine input in
         let ended : state.machine.ending ≡ None = sym (ap (λ (x : FlatData). x.machine.ending) (ran.stays input left)) ∙ ran.going in
-        subst (λ (s : FlatState). StepFailed s s.error (next_made s) (read_room_of s) d (run_to d i out e) (refusal_of f) [])
+        subst (λ (s : FlatState). StepFailed (flat_coming s) d (run_to d i out e) (refusal_of f) [])
         (start_same c p l first new.machine.steps input first_is)
         (step_failed {T = Unit {0}} f state new.machine.bus d (run_to d i out e) ended (ran.output_part input left) (ran.error_part input left) (λ x. ran.failed_input x input left) (λ rose. ran.failed_output rose input left) (λ rose. ran.failed_error rose input left) (ran.front input left)
         (record { output = ran.unasked_output input left; error = ran.unasked_error input left }));
@@ -152,7 +149,7 @@ run_done c p l first new d i mid out e x first_is ran ending written still = rec
         error = subst (λ (y : List ℕ). Appends d.error.held e.held y) (sym (append-nil state.error)) (ran.error left told);
       });
   refused = tt;
-  memory = λ y. let bad : ⊥ = cc in absurd bad;
+  quiet = tt;
   failed = tt;
   causes = calm_causes d (run_to d i out e) (Ok x) tt refl refl
       (ap (λ (n : ℕ). record (stream_faults (run_to d i mid e)) { output = n }) still ∙ ok_unmoved ran.causes);
@@ -168,8 +165,8 @@ told_failed c p l first new d i mid out e first_is ran broke later rose =
     let still : mid.faults ≡ d.output.faults = ap (λ (x : outside.Faults). x.output) quiet in
     let up : Rose d.output.faults out.faults = subst (λ (n : ℕ). Rose n out.faults) still rose in record {
       done = tt;
-      refused = inr (inl refl);
-      memory = λ y. let bad : ⊥ = cc in absurd bad;
+      refused = tt;
+      quiet = λ never. absurd (never tt);
       failed = λ _ left told. inr (
           let state = state_at (limit_of c) first.machine left in
           let lines = c.told p (start_from c p l left) in

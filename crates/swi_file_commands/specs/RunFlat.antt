@@ -1,5 +1,5 @@
 -- The commands that run a file's program on the flat machine, and tell of the run behind the program's own bytes.
-use Rattle.std.specs.Prelude.{◌≡◌, ◌⊎◌, ℕ, List, [], ◌∷◌, Some, None, Result, IfOk, IfErr, IsErrOf, ⊤, true}
+use Rattle.std.specs.Prelude.{◌≡◌, ◌⊎◌, ℕ, List, [], ◌∷◌, Some, None, Result, ⊤, true}
 use Rattle.swi_memory.specs.declared.layout.Layout.{Layout}
 use Rattle.swi_program.specs.Program.{ProgramData}
 use Rattle.swi_program.specs.ProgramOf.{program_of_file}
@@ -12,9 +12,10 @@ use Rattle.swi_flat.specs.FlatData.{next_made}
 use Rattle.swi_answer.specs.declared.answer.Ending.{Ending}
 use Rattle.swi_answer.specs.declared.answer.Refusal.{Refusal}
 use Rattle.swi_answer.specs.declared.answer.Refusal.TheVariants as refusal
-use Rattle.swi_task.specs.Causes.{HasCauses}
 use Rattle.swi_task.specs.Checks.{NoCache, Check, IsShort, IsAcceptedElf, HasRoom, IsAcceptedImage, IsOwnImage}
 use Rattle.swi_task.specs.Devices.{Devices}
+use Rattle.swi_outcome.specs.Broken.{Coming, Steps}
+use Rattle.swi_task.specs.Over.{RanOver}
 use Rattle.swi_task.specs.Runs.{Ran, FailedAtStep, FailedAfterRun, start_of}
 use Rattle.swi_task.specs.Task.{Task}
 
@@ -42,10 +43,18 @@ Runs c file input before after e last = Ran (run_of c file input (limit_of c)) (
 abbrev pub read_room_of : FlatState → ℕ
 read_room_of s = room_of_call s.machine.regs s.machine.bus
 
+-- a state with its next step, which isn't told of before it is made
+abbrev pub flat_coming : FlatState → Coming
+flat_coming s = record { state = s; begun = s.error; next = next_made s; most = read_room_of s }
+
+-- a run of such states
+abbrev pub untold_steps : (ℕ → FlatState) → ℕ → Steps
+untold_steps run limit = record { coming = λ n. flat_coming (run n); limit = limit }
+
 -- a source or a sink failed, in the run or behind it
 abbrev pub RunFailed : FlatCommand → List ℕ → List ℕ → Devices → Devices → Refusal → List ℕ → Type 0
 RunFailed c file input before after r last =
-    FailedAtStep (run_of c file input) (λ s. s.error) next_made read_room_of (limit_of c) before after r last
+    FailedAtStep (untold_steps (run_of c file input) (limit_of c)) before after r last
     ⊎ FailedAfterRun (run_of c file input (limit_of c)) (told_of c file input) [] before after r last
 
 abbrev pub flat_checks : RunLimits → List ℕ → List Check
@@ -74,13 +83,18 @@ start_from c p l input = flat_start p l c.options.reports.calls input
 abbrev pub run_from : FlatCommand → ProgramData → Layout → List ℕ → ℕ → FlatState
 run_from c p l input n = flat_run n (start_from c p l input)
 
--- what a run does: it comes to its end, or a device fails in it or behind it, or there was no memory
-pub record RunsFlat (c : FlatCommand) (p : ProgramData) (l : Layout) (before after : Devices) (result : Result Ending Refusal) : Type 0 where
-  pub done : IfOk result (λ e. (input : List ℕ) → before.input.left ≡ Some input →
-      Ran (run_from c p l input (limit_of c)) (c.told p (start_from c p l input)) before after e [])
-  pub refused : IfErr result (λ r. (r ≡ refusal.SourceFault) ⊎ ((r ≡ refusal.SinkFault) ⊎ (r ≡ refusal.Memory)))
-  pub memory : IsErrOf result refusal.Memory → after ≡ before
-  pub failed : IfErr result (λ r. (r ≡ refusal.Memory → ⊥) → (input : List ℕ) → before.input.left ≡ Some input →
-      FailedAtStep (run_from c p l input) (λ s. s.error) next_made read_room_of (limit_of c) before after r []
-      ⊎ FailedAfterRun (run_from c p l input (limit_of c)) (c.told p (start_from c p l input)) [] before after r [])
-  pub causes : HasCauses before after result
+-- why such a run is refused
+abbrev pub IsFlatErr : Refusal → Type 0
+IsFlatErr refusal.SourceFault = ⊤
+IsFlatErr refusal.SinkFault = ⊤
+IsFlatErr refusal.Memory = ⊤
+IsFlatErr _ = ⊥
+
+-- what it does, whatever its input tells
+abbrev pub RunsFlat : FlatCommand → ProgramData → Layout → Devices → Devices → Result Ending Refusal → Type 0
+RunsFlat c p l before after result = RanOver IsFlatErr
+    (λ e. (input : List ℕ) → before.input.left ≡ Some input → Ran (run_from c p l input (limit_of c)) (c.told p (start_from c p l input)) before after e [])
+    (λ r. (input : List ℕ) → before.input.left ≡ Some input →
+    FailedAtStep (untold_steps (run_from c p l input) (limit_of c)) before after r []
+    ⊎ FailedAfterRun (run_from c p l input (limit_of c)) (c.told p (start_from c p l input)) [] before after r [])
+    before after result

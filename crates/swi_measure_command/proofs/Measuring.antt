@@ -129,12 +129,18 @@ over_done : (functions : ℕ) (k : Cache) (p : ProgramData) (l : Layout) (v : Im
     Appends d.output.held out.held (board_summary functions p v h r) → out.faults ≡ d.output.faults → MeasuresOver functions k v p l d (measured_to d out ram) (Ok e)
 over_done functions k p l v d out ram h r e ran beyond ram_is ending written still =
     let c = made_run k p l v in record {
-      ending = ending ∙ ap (λ (m : Machine). made_ending_by m.ending m.pc m.steps) ran.machine;
-      output = subst (λ (x : List ℕ). Appends d.output.held out.held x) (summary_is functions p v c h r d.ram ram ran) written;
-      ran = ran.ran;
-      refused = tt;
+      ran = record {
+        done = record {
+          ending = ending ∙ ap (λ (m : Machine). made_ending_by m.ending m.pc m.steps) ran.machine;
+          output = subst (λ (x : List ℕ). Appends d.output.held out.held x) (summary_is functions p v c h r d.ram ram ran) written;
+          ran = ran.ran;
+        };
+        refused = tt;
+        quiet = tt;
+        failed = tt;
+        causes = calm_causes d (measured_to d out ram) (Ok e) tt refl ram_is (ap (λ (n : ℕ). record (stream_faults d) { output = n }) still);
+      };
       beyond = beyond;
-      causes = calm_causes d (measured_to d out ram) (Ok e) tt refl ram_is (ap (λ (n : ℕ). record (stream_faults d) { output = n }) still);
     }
 
 -- where the summary was not written whole
@@ -143,22 +149,24 @@ over_summary_broke : (functions : ℕ) (k : Cache) (p : ProgramData) (l : Layout
     (board_summary functions p v h r ≡ [] → ⊥) → d.output.faults ≤ out.faults → Rose d.output.faults out.faults → MeasuresOver functions k v p l d (measured_to d out ram) (Err refusal.SinkFault)
 over_summary_broke functions k p l v d out ram h r ran beyond ram_is part due later rose =
     let c = made_run k p l v in record {
-      ending = tt;
-      output = tt;
-      ran = tt;
-      refused = inr (inr (
-        record {
-          fault = refl;
-          output_front = part.0;
-          output = subst (λ (x : List ℕ). Appends d.output.held out.held (take part.0 x)) (summary_is functions p v c h r d.ram ram ran) part.1;
-          error_front = 0;
-          error = Appends-none d.error.held;
-          behind = inl (refl, (λ none. due (summary_is functions p v c h r d.ram ram ran ∙ none)), rose);
-        },
-        ran.ran,
-      ));
+      ran = record {
+        done = tt;
+        refused = tt;
+        quiet = λ never. absurd (never tt);
+        failed = λ _. inr (
+          record {
+            fault = refl;
+            output_front = part.0;
+            output = subst (λ (x : List ℕ). Appends d.output.held out.held (take part.0 x)) (summary_is functions p v c h r d.ram ram ran) part.1;
+            error_front = 0;
+            error = Appends-none d.error.held;
+            behind = inl (refl, (λ none. due (summary_is functions p v c h r d.ram ram ran ∙ none)), rose);
+          },
+          ran.ran,
+        );
+        causes = out_causes d (measured_to d out ram) refl ram_is refl refl later rose;
+      };
       beyond = beyond;
-      causes = out_causes d (measured_to d out ram) refl ram_is refl refl later rose;
     }
 
 ram_causes : (d : Devices) (ram : RamState) → d.ram.faults ≤ ram.faults → Rose d.ram.faults ram.faults → HasCauses {T = Ending} d (record d { ram = ram }) (Err refusal.RamFault)
@@ -170,17 +178,28 @@ ram_causes d ram later rose =
 over_run_broke : (functions : ℕ) (k : Cache) (p : ProgramData) (l : Layout) (v : ImageData) (d : Devices) (ram : RamState) → KeepsBeyond k.span d.ram ram → d.ram.faults ≤ ram.faults →
     Rose d.ram.faults ram.faults → MadeRamFailed (made_run k p l v) d.ram ram → MeasuresOver functions k v p l d (record d { ram = ram }) (Err refusal.RamFault)
 over_run_broke functions k p l v d ram beyond later rose failed = record {
-  ending = tt;
-  output = tt;
-  ran = tt;
-  refused = inr (inl (record { fault = refl; ram = failed; output = refl; error = Appends-none d.error.held }));
+  ran = record {
+    done = tt;
+    refused = tt;
+    quiet = λ never. absurd (never tt);
+    failed = λ _. inl (record { fault = refl; ram = failed; output = refl; error = Appends-none d.error.held });
+    causes = ram_causes d ram later rose;
+  };
   beyond = beyond;
-  causes = ram_causes d ram later rose;
 }
 
 -- where there was no memory
 over_memory : (functions : ℕ) (k : Cache) (p : ProgramData) (l : Layout) (v : ImageData) (d : Devices) → KeepsBeyond k.span d.ram d.ram → MeasuresOver functions k v p l d d (Err refusal.Memory)
-over_memory functions k p l v d beyond = record { ending = tt; output = tt; ran = tt; refused = inl (refl, refl); beyond = beyond; causes = calm_causes d d (Err refusal.Memory) tt refl refl refl }
+over_memory functions k p l v d beyond = record {
+  ran = record {
+    done = tt;
+    refused = tt;
+    quiet = λ _. refl;
+    failed = λ f. absurd f;
+    causes = calm_causes d d (Err refusal.Memory) tt refl refl refl;
+  };
+  beyond = beyond;
+}
 
 -- where it was refused
 pub over_refused : {T : Type 0} (functions : ℕ) (k : Cache) (p : ProgramData) (l : Layout) (v : ImageData) (d : Devices) (ram : RamState) (r : Refusal) →
@@ -270,11 +289,11 @@ made_done seed functions cache p l v d out ram e size is fits held run = record 
     layout = l;
     image = v;
     is = is;
-    ending = run.ending;
-    output = run.output;
+    ending = run.ran.done.ending;
+    output = run.ran.done.output;
     error = Appends-none d.error.held;
     input = refl;
-    ran = run.ran;
+    ran = run.ran.done.ran;
     beyond = run.beyond;
   };
   failed = tt;
@@ -282,7 +301,7 @@ made_done seed functions cache p l v d out ram e size is fits held run = record 
   shelf = keeps_shelf (measure_task seed functions cache) d.shelf (Ok e) refl refl (refl, refl) refl (λ x. let never : ⊥ = cc in never);
   input = refl;
   ram = keeps_run cache v d.ram ram run.beyond;
-  causes = run.causes;
+  causes = run.ran.causes;
 }
 
 -- a device failed, in the run or behind it
@@ -362,11 +381,10 @@ measured_so seed functions cache p l v d out ram r k same size is fits held run 
   where
     by : (r : Result Ending Refusal) → MeasuresOver functions (cache_for cache v) v p l d (measured_to d out ram) r → Answers (measure_task seed functions cache) d (measured_to d out ram) r []
     by (Ok e) run = made_done seed functions cache p l v d out ram e size is fits held run
-    by (Err e) run = elim run.refused [
-      | inl m ↦ subst (λ (x : Refusal). Answers (measure_task seed functions cache) d (measured_to d out ram) (Err x) []) (sym m.0)
-          (subst (λ (x : Devices). Answers (measure_task seed functions cache) d x (Err refusal.Memory) []) (sym m.1) (no_measure seed functions cache d size))
-      | inr broke ↦ made_failed seed functions cache p l v d out ram e (elim broke [ inl b ↦ inl b.fault | inr b ↦ inr b.0.fault ]) size is fits held run.beyond run.causes broke
-    ]
+    by (Err refusal.Memory) run = subst (λ (x : Devices). Answers (measure_task seed functions cache) d x (Err refusal.Memory) []) (sym (run.ran.quiet (λ x. x))) (no_measure seed functions cache d size)
+    by (Err refusal.RamFault) run = made_failed seed functions cache p l v d out ram refusal.RamFault (inl refl) size is fits held run.beyond run.ran.causes (run.ran.failed tt)
+    by (Err refusal.SinkFault) run = made_failed seed functions cache p l v d out ram refusal.SinkFault (inr refl) size is fits held run.beyond run.ran.causes (run.ran.failed tt)
+    by (Err _) run = absurd run.ran.refused
 
 -- ---- the last line behind it
 

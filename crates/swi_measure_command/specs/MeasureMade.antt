@@ -1,5 +1,5 @@
 -- The command `measure`: the run of a program that is made from a number.
-use Rattle.std.specs.Prelude.{◌≡◌, ◌⊎◌, ℕ, ◌*◌, ◌^◌, List, [], ◌∷◌, ◌++◌, length, take, true, false, Option, Some, None, Result, Ok, IfOk, IfErr, OnOk, ⊤}
+use Rattle.std.specs.Prelude.{◌≡◌, ◌⊎◌, ℕ, ◌*◌, ◌^◌, List, [], ◌∷◌, ◌++◌, length, take, true, false, Option, Some, None, Result, Ok, ⊤}
 use Rattle.std.specs.Io.KnownBytes.{Appends}
 use Rattle.swi_outside.specs.CacheRam.{KeepsBeyond, RamState}
 use Rattle.swi_memory.specs.declared.layout.Layout.{Layout}
@@ -30,9 +30,9 @@ use Rattle.swi_answer.specs.declared.answer.Refusal.{Refusal}
 use Rattle.swi_answer.specs.declared.answer.Refusal.TheVariants as refusal
 use Rattle.swi_answer.specs.Lines.{ending_line}
 use Rattle.swi_cached_task.specs.Caching.{IsCachedRun, board_work, cache_for, work_of}
-use Rattle.swi_task.specs.Causes.{HasCauses}
 use Rattle.swi_task.specs.Checks.{InRam, Check, FitsMade, HoldsBlock}
 use Rattle.swi_task.specs.Devices.{Devices}
+use Rattle.swi_task.specs.Over.{IsUnfedErr, RanOver}
 use Rattle.swi_task.specs.Runs.{FailedBehind}
 use Rattle.swi_task.specs.Task.{Task}
 
@@ -152,18 +152,19 @@ pub record MadeRan (c : CachedRun) (h : HartData) (r : Record) (before after : R
 abbrev pub board_summary : ℕ → ProgramData → ImageData → HartData → Record → List ℕ
 board_summary functions p v h r = summary_by functions p v (board_work h.count h.machine.ending r) h.machine.ending h.machine.steps
 
--- why a made program's run over a service has no ending: there was no memory, and nothing changed; or a device failed in it, or behind it
-abbrev pub IsMeasureErr : ℕ → ProgramData → ImageData → CachedRun → Devices → Devices → Refusal → Type 0
-IsMeasureErr functions p v c before after r =
-    ((r ≡ refusal.Memory) × (after ≡ before))
-    ⊎ (MadeRunBroke c before after r []
-    ⊎ (SummaryBroke (made_ending (end_of c)) (made_summary functions p v c) before after r [] × IsCachedRun c before.ram after.ram))
+-- it came to its end, and its summary was written
+pub record MadeSummarized (functions : ℕ) (p : ProgramData) (v : ImageData) (c : CachedRun) (before after : Devices) (e : Ending) : Type 0 where
+  pub ending : e ≡ made_ending (end_of c)
+  pub output : Appends before.output.held after.output.held (made_summary functions p v c)
+  pub ran : IsCachedRun c before.ram after.ram
 
--- what such a run does: it comes to its end, and its summary is written; or it is refused
+-- or a device failed in it, or behind it
+abbrev pub MadeBroke : ℕ → ProgramData → ImageData → CachedRun → Devices → Devices → Refusal → Type 0
+MadeBroke functions p v c before after r =
+    MadeRunBroke c before after r []
+    ⊎ (SummaryBroke (made_ending (end_of c)) (made_summary functions p v c) before after r [] × IsCachedRun c before.ram after.ram)
+
+-- what such a run does
 pub record MeasuresOver (functions : ℕ) (k : Cache) (v : ImageData) (p : ProgramData) (l : Layout) (before after : Devices) (result : Result Ending Refusal) : Type 0 where
-  pub ending : IfOk result (λ e. e ≡ made_ending (end_of (made_run k p l v)))
-  pub output : OnOk result (Appends before.output.held after.output.held (made_summary functions p v (made_run k p l v)))
-  pub ran : OnOk result (IsCachedRun (made_run k p l v) before.ram after.ram)
-  pub refused : IfErr result (IsMeasureErr functions p v (made_run k p l v) before after)
+  pub ran : RanOver IsUnfedErr (MadeSummarized functions p v (made_run k p l v) before after) (MadeBroke functions p v (made_run k p l v) before after) before after result
   pub beyond : KeepsBeyond k.span before.ram after.ram
-  pub causes : HasCauses before after result

@@ -59,15 +59,17 @@ use Rattle.swi_answer.specs.declared.answer.Refusal.TheVariants as refusal
 use Rattle.swi_answer.specs.Lines.{ending_line}
 use Rattle.swi_prefetch_command.specs.declared.command.AheadAsked.{AheadAsked}
 use Rattle.swi_task.specs.Answers.{Answers, IsChecked, IsRunFault}
-use Rattle.swi_cached_task.specs.Caching.{IsRunErr, board_work, held_next}
+use Rattle.swi_cached_task.specs.Caching.{board_work}
+use Rattle.swi_outcome.proofs.Fronts.{front_none, to_nil}
+use Rattle.swi_task.specs.Over.{IsRunErr}
 use Rattle.swi_task.specs.Causes.{HasCauses}
 use Rattle.swi_task.specs.Checks.{IsAccepted, room_in, size_refusal}
 use Rattle.swi_task.specs.Devices.{Devices, stream_faults}
-use Rattle.swi_prefetch_command.specs.RunAhead.{AheadFailed, HasFetchedEach, IsAheadRun, IsFlatFrom, RamBrokeAhead, RunsAhead, RunsToEnd, RunsWithReport, StepBrokeAhead, StopsFrom, ahead_asked, ahead_from, ahead_report, ahead_run, ahead_span, ahead_task, ahead_work, around, board_report, board_work_with, engine_lines, engine_work, report_with}
+use Rattle.swi_prefetch_command.specs.RunAhead.{AheadFailed, HasFetchedEach, IsAheadRun, IsFlatFrom, RamBrokeAhead, RunsAhead, RunsToEnd, RunsWithReport, StepBrokeAhead, StopsFrom, ahead_asked, ahead_from, ahead_report, ahead_run, ahead_span, ahead_task, ahead_work, around, board_report, board_work_with, engine_lines, engine_work, held_coming, report_with}
 use Rattle.swi_cached_task.specs.Placing.{cached_checks}
 use Rattle.swi_task.specs.Runs.{ending_by, refusal_of, start_of}
 use Rattle.swi_task.specs.Subject.{IsImageFor}
-use Rattle.swi_cached_task.proofs.Caching.{cached_to, fetches_are, front_none, keeps_all, keeps_less, ran_all, risen_min, run_err_asked, run_err_given, run_err_short, run_err_checked, run_err_not, run_err_size, to_nil}
+use Rattle.swi_cached_task.proofs.Caching.{cached_to, fetches_are, keeps_all, keeps_less, ran_all, risen_min, run_err_asked, run_err_given, run_err_short, run_err_checked, run_err_not, run_err_size}
 use Rattle.swi_task.proofs.Due.{left_empty, right_empty}
 use Rattle.swi_task.proofs.Starts.{start_is}
 use Rattle.swi_task.proofs.Lines.{IsLined, after_line, after_run_line, appends_last, holds_then, ran_line, step_line}
@@ -214,16 +216,16 @@ step_at f c d m b other h broke unasked order =
         going = going.0;
         output = (broke.output_front, broke.output);
         error_front = broke.error_front;
-        error = to_nil d.error.held m.error.held (s.error ++ take broke.error_front (held_next s).error) broke.error;
+        error = to_nil d.error.held m.error.held (s.error ++ take broke.error_front (next_of s).error) broke.error;
         source = λ is. let none = broke.unwritten (named f is) in (
-          front_none d.output.held m.output.held s.output (held_next s).output broke.output_front none.0 broke.output,
-          to_nil d.error.held m.error.held s.error (front_none d.error.held m.error.held s.error (held_next s).error broke.error_front none.1 broke.error),
+          front_none d.output.held m.output.held s.output (next_of s).output broke.output_front none.0 broke.output,
+          to_nil d.error.held m.error.held s.error (front_none d.error.held m.error.held s.error (next_of s).error broke.error_front none.1 broke.error),
         );
         output_failed = λ rose. to_nil d.error.held m.error.held s.error (order.output_failed rose);
         error_failed = λ rose. inr (order.error_failed rose);
         unasked = unasked;
         taken = broke.taken;
-        no_more = let few : length broke.taken + length (held_next s).input ≤ length s.input = broke.few in omega arith;
+        no_more = let few : length broke.taken + length (next_of s).input ≤ length s.input = broke.few in omega arith;
         input = broke.input;
       };
     }
@@ -414,25 +416,27 @@ module _ {a : AheadAsked} {v : ImageData} {p : ProgramData} {l : Layout} {d : De
   pub report_written : {out : SinkState} {y : Ending} → Appends mid.held out.held (board_report a.run.reports b) → out.faults ≡ mid.faults → y ≡ ending_by b.hart.machine.ending b.hart.machine.pc b.hart.machine.steps →
       RunsWithReport a v p l d (ran_all d i out em ram) (Ok y)
   report_written {out} {y} bytes same ending = record {
-    done = λ left told.
-        let end = end_at left told in
-        let c = of left in record {
-          made = end.0;
-          ran = record {
-            ending = ending ∙ ap (λ (m : Machine). ending_by m.ending m.pc m.steps) end.1.machine;
-            input = input_is a.run c end.0 b d (ran_all d i mid em ram) end.1 end.2;
-            output = Appends-append d.output.held mid.held out.held (end_of c).output (ahead_report a.run c end.0) (output_is a.run c end.0 b d (ran_all d i mid em ram) end.1 end.2)
-                (subst (λ (t : List ℕ). Appends mid.held out.held t) (report_is a.run c end.0 b d (ran_all d i mid em ram) end.1 end.2) bytes);
-            error = to_nil d.error.held em.held (end_of c).error (error_is a.run c end.0 b d (ran_all d i mid em ram) end.1 end.2);
+    ran = record {
+      done = λ left told.
+          let end = end_at left told in
+          let c = of left in record {
+            made = end.0;
+            ran = record {
+              ending = ending ∙ ap (λ (m : Machine). ending_by m.ending m.pc m.steps) end.1.machine;
+              input = input_is a.run c end.0 b d (ran_all d i mid em ram) end.1 end.2;
+              output = Appends-append d.output.held mid.held out.held (end_of c).output (ahead_report a.run c end.0) (output_is a.run c end.0 b d (ran_all d i mid em ram) end.1 end.2)
+                  (subst (λ (t : List ℕ). Appends mid.held out.held t) (report_is a.run c end.0 b d (ran_all d i mid em ram) end.1 end.2) bytes);
+              error = to_nil d.error.held em.held (end_of c).error (error_is a.run c end.0 b d (ran_all d i mid em ram) end.1 end.2);
+            };
+            ahead = is_ahead_run a.run c end.0 b d (ran_all d i mid em ram) end.1 end.2;
           };
-          ahead = is_ahead_run a.run c end.0 b d (ran_all d i mid em ram) end.1 end.2;
-        };
-    refused = tt;
-    quiet = tt;
-    failed = tt;
+      refused = tt;
+      quiet = tt;
+      failed = tt;
+      causes = calm_causes d (ran_all d i out em ram) (Ok y) tt refl ram_calm
+          (ap (λ (n : ℕ). record (stream_faults d) { input = i.faults; output = n; error = em.faults }) same ∙ calm);
+    };
     beyond = run.beyond;
-    causes = calm_causes d (ran_all d i out em ram) (Ok y) tt refl ram_calm
-        (ap (λ (n : ℕ). record (stream_faults d) { input = i.faults; output = n; error = em.faults }) same ∙ calm);
   }
 
   -- or a front of it
@@ -441,33 +445,35 @@ module _ {a : AheadAsked} {v : ImageData} {p : ProgramData} {l : Layout} {d : De
   report_broke {out} part due later rose =
       let output_same : mid.faults ≡ d.output.faults = ap (λ (f : outside.Faults). f.output) calm in
       let failed : Rose d.output.faults out.faults = subst (λ (n : ℕ). Rose n out.faults) output_same rose in record {
-        done = tt;
-        refused = tt;
-        quiet = λ never. absurd (never tt);
-        failed = λ _ left told.
-            let end = end_at left told in
-            let c = of left in
-            let same = report_is a.run c end.0 b d (ran_all d i mid em ram) end.1 end.2 in record {
-              broke = inr (inr (record {
-                made = end.0;
-                failed = record {
-                  output_front = part.0;
-                  output = Appends-append d.output.held mid.held out.held (end_of c).output (take part.0 (ahead_report a.run c end.0)) (output_is a.run c end.0 b d (ran_all d i mid em ram) end.1 end.2)
-                      (subst (λ (t : List ℕ). Appends mid.held out.held (take part.0 t)) same part.1);
-                  error_front = 0;
-                  error = to_nil d.error.held em.held ((end_of c).error ++ []) (to_nil d.error.held em.held (end_of c).error (error_is a.run c end.0 b d (ran_all d i mid em ram) end.1 end.2));
-                  behind = inl (refl, (λ none. due (same ∙ none)), failed);
-                  input = input_is a.run c end.0 b d (ran_all d i mid em ram) end.1 end.2;
-                  fault = refl;
-                };
-                ahead = is_ahead_run a.run c end.0 b d (ran_all d i mid em ram) end.1 end.2;
-              }));
-              flat = flat_from c.start;
-              stops = stops_from c.start;
-            };
+        ran = record {
+          done = tt;
+          refused = tt;
+          quiet = λ never. absurd (never tt);
+          failed = λ _ left told.
+              let end = end_at left told in
+              let c = of left in
+              let same = report_is a.run c end.0 b d (ran_all d i mid em ram) end.1 end.2 in record {
+                broke = inr (inr (record {
+                  made = end.0;
+                  failed = record {
+                    output_front = part.0;
+                    output = Appends-append d.output.held mid.held out.held (end_of c).output (take part.0 (ahead_report a.run c end.0)) (output_is a.run c end.0 b d (ran_all d i mid em ram) end.1 end.2)
+                        (subst (λ (t : List ℕ). Appends mid.held out.held (take part.0 t)) same part.1);
+                    error_front = 0;
+                    error = to_nil d.error.held em.held ((end_of c).error ++ []) (to_nil d.error.held em.held (end_of c).error (error_is a.run c end.0 b d (ran_all d i mid em ram) end.1 end.2));
+                    behind = inl (refl, (λ none. due (same ∙ none)), failed);
+                    input = input_is a.run c end.0 b d (ran_all d i mid em ram) end.1 end.2;
+                    fault = refl;
+                  };
+                  ahead = is_ahead_run a.run c end.0 b d (ran_all d i mid em ram) end.1 end.2;
+                }));
+                flat = flat_from c.start;
+                stops = stops_from c.start;
+              };
+          causes = out_causes d (ran_all d i out em ram) refl ram_calm (ap (λ (f : outside.Faults). f.input) calm) (ap (λ (f : outside.Faults). f.error) calm)
+              (subst (λ (n : ℕ). n ≤ out.faults) output_same later) failed;
+        };
         beyond = run.beyond;
-        causes = out_causes d (ran_all d i out em ram) refl ram_calm (ap (λ (f : outside.Faults). f.input) calm) (ap (λ (f : outside.Faults). f.error) calm)
-            (subst (λ (n : ℕ). n ≤ out.faults) output_same later) failed;
       }
 
 -- a run that stopped before its end has no report
@@ -486,19 +492,21 @@ err_causes {T} {U} d m r h = record {
 
 pub run_stopped : (a : AheadAsked) (v : ImageData) (p : ProgramData) (l : Layout) (d m : Devices) (r : Refusal) → RunsToEnd a v p l d m (Err r) → RunsWithReport a v p l d m (Err r)
 run_stopped a v p l d m r run = record {
-  done = tt;
-  refused = elim run.refused [ inl none ↦ subst IsRunErr (sym none.0) tt | inr broke ↦ run_err r broke.0 ];
-  quiet = λ never. elim run.refused [ inl none ↦ none.1 | inr broke ↦ absurd (never broke.0) ];
-  failed = λ is left told. elim run.refused [
-    | inl none ↦ absurd (subst IsRunFault none.0 is)
-    | inr broke ↦ record {
-      broke = elim (broke.1 left told) [ inl x ↦ inl x | inr y ↦ inr (inl y) ];
-      flat = flat_from (ahead_from a v p l left).start;
-      stops = stops_from (ahead_from a v p l left).start;
-    }
-  ];
+  ran = record {
+    done = tt;
+    refused = elim run.refused [ inl none ↦ subst IsRunErr (sym none.0) tt | inr broke ↦ run_err r broke.0 ];
+    quiet = λ never. elim run.refused [ inl none ↦ none.1 | inr broke ↦ absurd (never broke.0) ];
+    failed = λ is left told. elim run.refused [
+      | inl none ↦ absurd (subst IsRunFault none.0 is)
+      | inr broke ↦ record {
+        broke = elim (broke.1 left told) [ inl x ↦ inl x | inr y ↦ inr (inl y) ];
+        flat = flat_from (ahead_from a v p l left).start;
+        stops = stops_from (ahead_from a v p l left).start;
+      }
+    ];
+    causes = err_causes {T = PrefetchData} d m r run.causes;
+  };
   beyond = run.beyond;
-  causes = err_causes {T = PrefetchData} d m r run.causes;
 }
   where
     run_err : (r : Refusal) → IsRunFault r → IsRunErr r
@@ -539,20 +547,7 @@ left_again o c d m s r h = record {
         are = a.are;
         words = a.words;
         sets = a.sets;
-        failed = let f = a.failed in record {
-          fault = f.fault;
-          going = f.going;
-          output = f.output;
-          error_front = f.error_front;
-          error = f.error;
-          source = f.source;
-          output_failed = f.output_failed;
-          error_failed = f.error_failed;
-          unasked = f.unasked;
-          taken = f.taken;
-          no_more = f.no_more;
-          input = f.input;
-        };
+        failed = a.failed;
       })
       | inr a ↦ inr (record {
         made = a.made;
@@ -582,22 +577,22 @@ ahead_answers name cache o rate d s i out e ram bytes v l (Ok x) size read accep
         own,
         run.beyond,
         λ input left. done_again o _ d m s x
-            (subst (λ (q : FlatState). RunsAhead o (ahead_run (ahead_asked cache o rate) v q) (record d { shelf = s }) m x []) (start_is o bytes input l room) (run.done input left)),
+            (subst (λ (q : FlatState). RunsAhead o (ahead_run (ahead_asked cache o rate) v q) (record d { shelf = s }) m x []) (start_is o bytes input l room) (run.ran.done input left)),
       );
       failed = tt;
       refused = tt;
       shelf = keeps_read (ahead_task name cache o rate) d.shelf s name bytes (Ok x) refl refl read (refl, refl) refl (λ y. let never : ⊥ = cc in never);
       input = tt;
       ram = keeps_ahead cache.cache_bytes v d.ram ram run.beyond;
-      causes = causes_behind d s m (Ok x) read.faults run.causes;
+      causes = causes_behind d s m (Ok x) read.faults run.ran.causes;
     }
 ahead_answers name cache o rate d s i out e ram bytes v l (Err r) size read accepted own room run =
     let m : Devices = cached_to d s i out e ram in record {
-      asked = run_err_not r refusal.Usage run.refused (λ x. x);
-      sized = sized_along (size_refusal cache.cache_bytes (length d.ram.words)) (Err r) size (sized_err r (run_err_size r run.refused));
+      asked = run_err_not r refusal.Usage run.ran.refused (λ x. x);
+      sized = sized_along (size_refusal cache.cache_bytes (length d.ram.words)) (Err r) size (sized_err r (run_err_size r run.ran.refused));
       checked = λ file are. subst (λ (f : List ℕ). IsChecked (cached_checks o.limits cache f) s.last_failed (Err r)) (read_is read are refl)
-          (run_err_checked (cached_checks o.limits cache bytes) s.last_failed r run.refused accepted);
-      long = none_long (ahead_task name cache o rate) d.shelf.contents r (run_err_short r run.refused);
+          (run_err_checked (cached_checks o.limits cache bytes) s.last_failed r run.ran.refused accepted);
+      long = none_long (ahead_task name cache o rate) d.shelf.contents r (run_err_short r run.ran.refused);
       ended = tt;
       done = tt;
       failed = λ fault file are. subst (λ (f : List ℕ). (ahead_task name cache o rate).fails f d m r []) (read_is read are refl) (
@@ -605,16 +600,16 @@ ahead_answers name cache o rate d s i out e ram bytes v l (Err r) size read acce
         own,
         run.beyond,
         λ input left. left_again o _ d m s r
-            (subst (λ (q : FlatState). AheadFailed o (ahead_run (ahead_asked cache o rate) v q) (record d { shelf = s }) m r []) (start_is o bytes input l room) (run.failed fault input left)),
+            (subst (λ (q : FlatState). AheadFailed o (ahead_run (ahead_asked cache o rate) v q) (record d { shelf = s }) m r []) (start_is o bytes input l room) (run.ran.failed fault input left)),
       );
-      refused = λ never. let same_all : m ≡ record d { shelf = s } = run.quiet never in (
+      refused = λ never. let same_all : m ≡ record d { shelf = s } = run.ran.quiet never in (
         record { input = ap (λ (y : Devices). y.input) same_all; output = ap (λ (y : Devices). y.output) same_all; ram = ap (λ (y : Devices). y.ram) same_all },
         subst (λ (y : SinkState). Appends d.error.held y.held []) (sym (ap (λ (y : Devices). y.error) same_all)) (Appends-none d.error.held),
       );
-      shelf = keeps_read (ahead_task name cache o rate) d.shelf s name bytes (Err r) refl refl read (run_err_asked s.last_failed r run.refused) (run_err_given s.last_failed r run.refused) (run_err_not r refusal.ShelfFault run.refused (λ x. x));
+      shelf = keeps_read (ahead_task name cache o rate) d.shelf s name bytes (Err r) refl refl read (run_err_asked s.last_failed r run.ran.refused) (run_err_given s.last_failed r run.ran.refused) (run_err_not r refusal.ShelfFault run.ran.refused (λ x. x));
       input = tt;
       ram = keeps_ahead cache.cache_bytes v d.ram ram run.beyond;
-      causes = causes_behind d s m (Err r) read.faults run.causes;
+      causes = causes_behind d s m (Err r) read.faults run.ran.causes;
     }
 
 -- ---- the last line behind it
@@ -649,7 +644,7 @@ ahead_lined name cache o rate = record {
       broke = elim f.broke [
         | inl a ↦ inl (ram_line c d m r held line a p)
         | inr b ↦ inr (elim b [
-          | inl a ↦ inl (record { events = a.events; are = a.are; words = a.words; sets = a.sets; failed = step_line _ _ _ _ d m r held line a.failed p })
+          | inl a ↦ inl (record { events = a.events; are = a.are; words = a.words; sets = a.sets; failed = step_line (held_coming (moment_of c a.events).flat) d m r held line a.failed p })
           | inr a ↦ inr (record { made = a.made; failed = after_run_line _ _ _ d m r held line a.failed p; ahead = a.ahead })
         ])
       ];

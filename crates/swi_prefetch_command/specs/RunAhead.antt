@@ -24,6 +24,8 @@ use Rattle.swi_hart.specs.Hart.{HartData}
 use Rattle.swi_board.specs.Board.{BoardOf, Around}
 use Rattle.swi_board.specs.Fetching.{HasFetched}
 use Rattle.swi_board.specs.Moments.{Moment}
+use Rattle.swi_board.specs.Ran.{next_of}
+use Rattle.swi_outcome.specs.Broken.{Coming, taken_next}
 use Rattle.swi_engine.specs.Engine.{engine_copies, engine_words, extent_of, span_of}
 use Rattle.swi_engine.specs.State.{EngineData, kept_by, setting_of}
 use Rattle.swi_prefetch.specs.Events.{Turn, of_hart, rounds}
@@ -39,10 +41,11 @@ use Rattle.swi_answer.specs.declared.answer.Refusal.{Refusal}
 use Rattle.swi_answer.specs.declared.answer.Refusal.TheVariants as refusal
 use Rattle.swi_prefetch_command.specs.declared.command.AheadAsked.{AheadAsked}
 use Rattle.swi_task.specs.Answers.{IsRunFault}
-use Rattle.swi_cached_task.specs.Caching.{IsRunErr, RamCounted, board_work, held_next, held_taken}
+use Rattle.swi_cached_task.specs.Caching.{RamCounted, board_work}
 use Rattle.swi_task.specs.Causes.{HasCauses}
 use Rattle.swi_task.specs.Checks.{InRam}
 use Rattle.swi_task.specs.Devices.{Devices}
+use Rattle.swi_task.specs.Over.{IsRunErr, RanOver}
 use Rattle.swi_cached_task.specs.Placing.{cached_checks}
 use Rattle.swi_task.specs.Runs.{FailedAfterRun, Ran, StepFailed, report, start_of}
 use Rattle.swi_task.specs.Subject.{IsImageFor}
@@ -143,6 +146,10 @@ pub record RamBrokeAhead (c : AheadRun) (before after : Devices) (r : Refusal) (
   pub words : HasFetched (words_of c events) before.ram after.ram
   pub last_failed : after.ram.last_failed ≡ true
 
+-- a state with its next step over the fixed text, which isn't told of before it is made
+abbrev pub held_coming : FlatState → Coming
+held_coming s = record { state = s; begun = s.error; next = next_of s; most = taken_next s }
+
 -- or the input or a sink failed at the step that comes next behind these events
 pub record StepBrokeAhead (c : AheadRun) (before after : Devices) (r : Refusal) (last : List ℕ) : Type 0 where
   pub events : List Turn
@@ -150,7 +157,7 @@ pub record StepBrokeAhead (c : AheadRun) (before after : Devices) (r : Refusal) 
   -- the word of that step which was under control was fetched too, and no word was set behind those of these events
   pub words : HasFetched (words_of c (events ++ of_hart ∷ [])) before.ram after.ram
   pub sets : after.ram.sets ≡ risen before.ram.sets (moment_of c events).sets
-  pub failed : StepFailed (moment_of c events).flat (moment_of c events).flat.error (held_next (moment_of c events).flat) (held_taken (moment_of c events).flat) before after r last
+  pub failed : StepFailed (held_coming (moment_of c events).flat) before after r last
 
 -- or a sink failed behind the run
 pub record BehindAhead (o : RunOptions) (c : AheadRun) (before after : Devices) (r : Refusal) (last : List ℕ) : Type 0 where
@@ -217,11 +224,10 @@ board_work_with h r = record (board_work h.count h.machine.ending r) { writes = 
 abbrev pub board_report : Reports → BoardOf EngineData → List ℕ
 board_report r b = report_with r b.hart.machine (board_work_with b.hart (kept_by b.rom)) (engine_work (kept_by b.rom))
 
--- and what a run with its report does
+-- and what a run with its report does, whatever its input tells
 pub record RunsWithReport (a : AheadAsked) (v : ImageData) (p : ProgramData) (l : Layout) (before after : Devices) (result : Result Ending Refusal) : Type 0 where
-  pub done : IfOk result (λ e. (input : List ℕ) → before.input.left ≡ Some input → RunsAhead a.run (ahead_from a v p l input) before after e [])
-  pub refused : IfErr result IsRunErr
-  pub quiet : IfErr result (λ r. (IsRunFault r → ⊥) → after ≡ before)
-  pub failed : IfErr result (λ r. IsRunFault r → (input : List ℕ) → before.input.left ≡ Some input → AheadFailed a.run (ahead_from a v p l input) before after r [])
+  pub ran : RanOver IsRunErr
+      (λ e. (input : List ℕ) → before.input.left ≡ Some input → RunsAhead a.run (ahead_from a v p l input) before after e [])
+      (λ r. (input : List ℕ) → before.input.left ≡ Some input → AheadFailed a.run (ahead_from a v p l input) before after r [])
+      before after result
   pub beyond : KeepsBeyond (ahead_span a.bytes v) before.ram after.ram
-  pub causes : HasCauses before after result

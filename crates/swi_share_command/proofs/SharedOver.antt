@@ -49,7 +49,7 @@ use Rattle.swi_task.specs.Runs.{refusal_of}
 use Rattle.swi_task.specs.Devices.{Devices}
 use Rattle.swi_task.proofs.Refusals.{calm_causes, causes_of, out_causes, rose_cause, same_count}
 use Rattle.swi_share_command.proofs.Sharing.{order_at, order_length, process_below, turn_below}
-use Rattle.swi_share_command.specs.RunShared.{EndsAlone, EventBroken, EventCutOff, EventUnfetched, IsAsAlone, IsPlaced, RamShared, ReportBroken, Shares, SharesOver, order_of, share_report, shared_end, start_of_guest}
+use Rattle.swi_share_command.specs.RunShared.{EndsAlone, EventBroken, EventCutOff, EventUnfetched, IsAsAlone, BlocksStand, RamShared, ReportBroken, Shares, SharesOver, order_of, share_report, shared_end, start_of_guest}
 
 -- ---- each program as alone
 
@@ -96,7 +96,7 @@ counts_none [] = refl
 counts_none (x ∷ xs) = let rest = counts_none xs in omega (arith, rest)
 
 -- the placed blocks stand in the ram
-placed_at : (share : ShareData) (words : List ℕ) (g : ℕ) (c : Context) → IsSharing share words → slice_index_or (seen share).contexts g None ≡ Some c → IsPlaced (seen share) g c words
+placed_at : (share : ShareData) (words : List ℕ) (g : ℕ) (c : Context) → IsSharing share words → slice_index_or (seen share).contexts g None ≡ Some c → BlocksStand (seen share) g c words
 placed_at share words g c sharing is =
     let rom : Slots = sharing.rom in
     let at = process_at share.processes g c is in
@@ -125,7 +125,7 @@ ram_shared order bytes guests first now start done =
       ran = subst (λ (n : ℕ). RamRan (span_of s.setting) s.fetches n first.ram now.ram) less
           (subst (λ (n : ℕ). RamRan (span_of s.setting) s.fetches (writes s.kept - n) first.ram now.ram) none c.came.ram);
       words = c.came.words;
-      coherent = λ g x is. subst (λ (q : Shared). IsPlaced q g x now.ram.words) c.came.share
+      coherent = λ g x is. subst (λ (q : Shared). BlocksStand q g x now.ram.words) c.came.share
           (placed_at now.share now.ram.words g x done.sharing (ap (λ (q : Shared). slice_index_or q.contexts g None) c.came.share ∙ is));
       unused = c.came.unused;
       fetched = omega (arith, law, counts);
@@ -315,12 +315,14 @@ keeps_slots bytes guests s before after is k = subst (λ (q : Shared). KeepsBeyo
 -- want of memory
 pub no_share : (o : ShareOptions) (bytes : ℕ) (guests : List Guest) (d : Devices) → SharesOver o bytes guests d d (Err refusal.Memory)
 no_share o bytes guests d = record {
-  done = tt;
-  refused = tt;
-  memory = λ _. refl;
-  failed = λ f. absurd f;
+  ran = record {
+    done = tt;
+    refused = tt;
+    quiet = λ _. refl;
+    failed = λ f. absurd f;
+    causes = calm_causes d d (Err refusal.Memory) tt refl refl refl;
+  };
   beyond = record { same_length = refl; beyond = λ i le. refl; reached = omega arith };
-  causes = calm_causes d d (Err refusal.Memory) tt refl refl refl;
 }
 
 -- ---- a device failed
@@ -364,18 +366,20 @@ module _ (o : ShareOptions) (bytes : ℕ) (guests : List Guest) (d : Devices) (f
       let ram = cause_from st.done.came.ram.quiet st.stopped.broke.ram in
       let sinks = pair_from st.done.quiet.output st.done.quiet.error st.stopped.broke.sinks in
       record {
-        done = tt;
-        refused = tt;
-        memory = λ e. absurd (let bad : ⊥ = cc in bad);
-        failed = λ _. record { broke = inl (cut_event st); input = refl; beyond = beyond };
+        ran = record {
+          done = tt;
+          refused = tt;
+          quiet = λ never. absurd (never tt);
+          failed = λ _. record { broke = inl (cut_event st); input = refl; beyond = beyond };
+          causes = causes_of (with_streams d first) (with_streams d after) (Err refusal.SinkFault) (no_cause refl (λ e. let bad : ⊥ = cc in bad))
+              (no_cause (same_count ram (λ e. let bad : ⊥ = cc in bad)) (λ e. let bad : ⊥ = cc in bad))
+              (record {
+                input = no_cause refl (λ e. let bad : ⊥ = cc in bad);
+                sinks = record { one_later = sinks.one_later; other_later = sinks.other_later; cause = λ _. sinks.cause refl; one_told = inr refl; other_told = inr refl };
+                once = λ e. let bad : ⊥ = cc in absurd bad;
+              });
+        };
         beyond = keeps_cache bytes guests first.ram after.ram beyond;
-        causes = causes_of (with_streams d first) (with_streams d after) (Err refusal.SinkFault) (no_cause refl (λ e. let bad : ⊥ = cc in bad))
-            (no_cause (same_count ram (λ e. let bad : ⊥ = cc in bad)) (λ e. let bad : ⊥ = cc in bad))
-            (record {
-              input = no_cause refl (λ e. let bad : ⊥ = cc in bad);
-              sinks = record { one_later = sinks.one_later; other_later = sinks.other_later; cause = λ _. sinks.cause refl; one_told = inr refl; other_told = inr refl };
-              once = λ e. let bad : ⊥ = cc in absurd bad;
-            });
       }
   over_broken RamFault ran =
       let st = ran.ends in
@@ -383,18 +387,20 @@ module _ (o : ShareOptions) (bytes : ℕ) (guests : List Guest) (d : Devices) (f
       let ram = cause_from st.done.came.ram.quiet st.stopped.broke.ram in
       let sinks = pair_from st.done.quiet.output st.done.quiet.error st.stopped.broke.sinks in
       record {
-        done = tt;
-        refused = tt;
-        memory = λ e. absurd (let bad : ⊥ = cc in bad);
-        failed = λ _. record { broke = inl (unfetched_event st); input = refl; beyond = beyond };
+        ran = record {
+          done = tt;
+          refused = tt;
+          quiet = λ never. absurd (never tt);
+          failed = λ _. record { broke = inl (unfetched_event st); input = refl; beyond = beyond };
+          causes = causes_of (with_streams d first) (with_streams d after) (Err refusal.RamFault) (no_cause refl (λ e. let bad : ⊥ = cc in bad))
+              (rose_cause first.ram.faults after.ram.faults _ refl ram.later (ram.cause refl))
+              (record {
+                input = no_cause refl (λ e. let bad : ⊥ = cc in bad);
+                sinks = pair_none (elim sinks.one_told [ inl e ↦ e | inr e ↦ absurd (let bad : ⊥ = cc in bad) ]) (elim sinks.other_told [ inl e ↦ e | inr e ↦ absurd (let bad : ⊥ = cc in bad) ]) (λ e. let bad : ⊥ = cc in bad);
+                once = λ e. let bad : ⊥ = cc in absurd bad;
+              });
+        };
         beyond = keeps_cache bytes guests first.ram after.ram beyond;
-        causes = causes_of (with_streams d first) (with_streams d after) (Err refusal.RamFault) (no_cause refl (λ e. let bad : ⊥ = cc in bad))
-            (rose_cause first.ram.faults after.ram.faults _ refl ram.later (ram.cause refl))
-            (record {
-              input = no_cause refl (λ e. let bad : ⊥ = cc in bad);
-              sinks = pair_none (elim sinks.one_told [ inl e ↦ e | inr e ↦ absurd (let bad : ⊥ = cc in bad) ]) (elim sinks.other_told [ inl e ↦ e | inr e ↦ absurd (let bad : ⊥ = cc in bad) ]) (λ e. let bad : ⊥ = cc in bad);
-              once = λ e. let bad : ⊥ = cc in absurd bad;
-            });
       }
 
 -- ---- behind the events
@@ -418,14 +424,16 @@ events_made programs o bytes guests first now {u} count start ran = record {
 pub over_told : {E : Type 0} (o : ShareOptions) (bytes : ℕ) (guests : List Guest) (d : Devices) (first now : ShareWith) (out : SinkState) {u : Unit} → EventsMade o bytes guests first now →
     WasWritten {E = E} now.out out (Ok u) (share_report o (seen now.share)) → SharesOver o bytes guests (with_streams d first) (with_output (with_streams d now) out) (Ok ending.Done)
 over_told o bytes guests d first now out h w = record {
-  done = shares_done o bytes guests d first now out h.start h.done w.bytes;
-  refused = tt;
-  memory = λ e. absurd (let never : ⊥ = cc in never);
-  failed = tt;
+  ran = record {
+    done = shares_done o bytes guests d first now out h.start h.done w.bytes;
+    refused = tt;
+    quiet = tt;
+    failed = tt;
+    causes = calm_causes (with_streams d first) (with_output (with_streams d now) out) (Ok ending.Done) tt refl h.done.came.ram.quiet
+        (let still : out.faults ≡ first.out.faults = w.cause.quiet ∙ h.done.quiet.output in
+        let same : faults_as d.input.faults out.faults now.err.faults ≡ faults_as d.input.faults first.out.faults first.err.faults = rw (still, h.done.quiet.error) refl in same);
+  };
   beyond = keeps_cache bytes guests first.ram now.ram h.beyond;
-  causes = calm_causes (with_streams d first) (with_output (with_streams d now) out) (Ok ending.Done) tt refl h.done.came.ram.quiet
-      (let still : out.faults ≡ first.out.faults = w.cause.quiet ∙ h.done.quiet.output in
-      let same : faults_as d.input.faults out.faults now.err.faults ≡ faults_as d.input.faults first.out.faults first.err.faults = rw (still, h.done.quiet.error) refl in same);
 }
 
 -- or the output failed there
@@ -435,12 +443,14 @@ over_untold o bytes guests d first now out h w =
     let later : first.out.faults ≤ out.faults = let still = h.done.quiet.output in let up = w.cause.later in omega (arith, still, up) in
     let rose : Rose first.out.faults out.faults = subst (λ (n : ℕ). Rose n out.faults) h.done.quiet.output w.cause.failed in
     record {
-      done = tt;
-      refused = tt;
-      memory = λ x. absurd (let bad : ⊥ = cc in bad);
-      failed = λ _. record { broke = inr (report_broken o bytes guests d first now out w.bytes.0 h.start h.done w.bytes.1 rose); input = refl; beyond = h.beyond };
+      ran = record {
+        done = tt;
+        refused = tt;
+        quiet = λ never. absurd (never tt);
+        failed = λ _. record { broke = inr (report_broken o bytes guests d first now out w.bytes.0 h.start h.done w.bytes.1 rose); input = refl; beyond = h.beyond };
+        causes = out_causes (with_streams d first) (with_output (with_streams d now) out) refl h.done.came.ram.quiet refl h.done.quiet.error later rose;
+      };
       beyond = keeps_cache bytes guests first.ram now.ram h.beyond;
-      causes = out_causes (with_streams d first) (with_output (with_streams d now) out) refl h.done.came.ram.quiet refl h.done.quiet.error later rose;
     }
 
 -- ---- before the first event

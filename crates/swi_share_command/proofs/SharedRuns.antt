@@ -18,10 +18,11 @@ use Rattle.swi_share.specs.Starting.{most_words}
 use Rattle.swi_answer.specs.declared.answer.Ending.{Ending}
 use Rattle.swi_answer.specs.declared.answer.Refusal.{Refusal}
 use Rattle.swi_answer.specs.declared.answer.Refusal.TheVariants as refusal
-use Rattle.swi_task.specs.Answers.{Answers, AreGiven, HasPassed, HasStored, IsAskedFor, IsChecked, IsLastLonger, IsRunFault, IsSizeRefusal, KeepsShelf, writes_in}
+use Rattle.swi_task.specs.Answers.{Answers, AreGiven, HasPassed, HasStored, IsAskedFor, IsChecked, IsLastLonger, IsSizeRefusal, KeepsShelf, writes_in}
 use Rattle.swi_task.specs.Checks.{Check, HoldsBlock, Fails, IsAccepted, IsRefusedBy, size_refusal}
 use Rattle.swi_task.specs.Devices.{Devices}
-use Rattle.swi_share_command.specs.RunShared.{AreGuestsOf, FilesRead, FilesRefused, FilesUnread, FirstRead, GotSome, IsFileRefusal, IsGuestFile, IsGuestOf, IsRefusedSo, IsShareErr, ShareFailed, Shares, SharesOver, ShelfBroke, files_checks, limits_by, most_block, share_checks, share_task}
+use Rattle.swi_task.specs.Over.{IsUnfedErr}
+use Rattle.swi_share_command.specs.RunShared.{AreGuestsOf, FilesRead, FilesRefused, FilesUnread, FirstRead, GotSome, IsFileRefusal, IsGuestFile, IsGuestOf, IsRefusedSo, ShareFailed, Shares, SharesOver, ShelfBroke, files_checks, limits_by, most_block, share_checks, share_task}
 use Rattle.swi_task.specs.Task.{GaveFirst, Task, TellsAll}
 use Rattle.swi_task.proofs.Images.{front_fails, size_is}
 use Rattle.swi_task.proofs.Lines.{IsLined, appends_last, done_lined, holds_then}
@@ -302,31 +303,25 @@ failed_again o bytes guests d m s r h = record {
   beyond = h.beyond;
 }
 
-err_not : (r s : Refusal) → IsShareErr r → (IsShareErr s → ⊥) → IsErrOf {T = Ending} (Err r) s → ⊥
-err_not r s h never e = never (let p : r ≡ s = cc in subst IsShareErr p h)
+err_not : (r s : Refusal) → IsUnfedErr r → (IsUnfedErr s → ⊥) → IsErrOf {T = Ending} (Err r) s → ⊥
+err_not r s h never e = never (let p : r ≡ s = cc in subst IsUnfedErr p h)
 
-err_size : (r : Refusal) → IsShareErr r → IsSizeRefusal r → ⊥
+err_size : (r : Refusal) → IsUnfedErr r → IsSizeRefusal r → ⊥
 err_size (refusal.CacheLarge bytes) h f = h
 err_size (refusal.RamSmall bytes held) h f = h
 err_size _ h f = f
 
-err_asked : (reads : ℕ) (failed : Option Asked) (r : Refusal) → IsShareErr r → IsAskedFor reads 0 failed (Err r) reads 0
+err_asked : (reads : ℕ) (failed : Option Asked) (r : Refusal) → IsUnfedErr r → IsAskedFor reads 0 failed (Err r) reads 0
 err_asked reads failed refusal.SinkFault h = (refl, refl)
 err_asked reads failed refusal.RamFault h = (refl, refl)
 err_asked reads failed refusal.Memory h = (omega arith, omega arith, λ _. refl)
 err_asked reads failed _ h = absurd h
 
-err_checked : (checks : List Check) (last : Option Asked) (r : Refusal) → IsShareErr r → IsAccepted checks → IsChecked checks last (Err r)
+err_checked : (checks : List Check) (last : Option Asked) (r : Refusal) → IsUnfedErr r → IsAccepted checks → IsChecked checks last (Err r)
 err_checked checks last refusal.SinkFault h passed = passed
 err_checked checks last refusal.RamFault h passed = passed
 err_checked checks last refusal.Memory h passed = tt
 err_checked checks last _ h passed = absurd h
-
-err_memory : (r : Refusal) → IsShareErr r → (IsRunFault r → ⊥) → IsErrOf {T = Ending} (Err r) refusal.Memory
-err_memory refusal.SinkFault h never = absurd (never tt)
-err_memory refusal.RamFault h never = absurd (never tt)
-err_memory refusal.Memory h never = refl
-err_memory _ h never = absurd h
 
 -- all checks pass
 passes_all : (names : List (List ℕ)) (cache : CacheOptions) (o : ShareOptions) (before after : ShelfState) (read : List (List ℕ)) (guests : List Guest) (files : List (List ℕ)) →
@@ -339,13 +334,13 @@ passes_all names cache o before after read guests files h are made holds =
       made,
     )
 
-err_given : (failed : Option Asked) (n k : ℕ) (r : Refusal) → IsShareErr r → n ≡ k → AreGiven failed (Err r) n k
+err_given : (failed : Option Asked) (n k : ℕ) (r : Refusal) → IsUnfedErr r → n ≡ k → AreGiven failed (Err r) n k
 err_given failed n k refusal.SinkFault h same = same
 err_given failed n k refusal.RamFault h same = same
 err_given failed n k refusal.Memory h same = (omega (arith, same), omega (arith, same))
 err_given failed n k _ h same = absurd h
 
-err_short : (r : Refusal) → IsShareErr r → IsTooLong r → ⊥
+err_short : (r : Refusal) → IsUnfedErr r → IsTooLong r → ⊥
 err_short (refusal.FileLong limit) h long = h
 err_short _ h long = long
 
@@ -358,31 +353,31 @@ shared_answers names cache o d s out e ram read guests (Ok x) size h made holds 
       sized = sized_along (size_refusal cache.cache_bytes (length d.ram.words)) (Ok x) size (sized_ok x);
       checked = λ files are. (passes_all names cache o d.shelf s read guests files h are made holds).0;
       long = λ limit y. absurd (let bad : ⊥ = cc in bad);
-      ended = run.done.ending;
-      done = λ files are. (guests, (passes_all names cache o d.shelf s read guests files h are made holds).1, shares_again o cache.cache_bytes guests d m s x run.done);
+      ended = run.ran.done.ending;
+      done = λ files are. (guests, (passes_all names cache o d.shelf s read guests files h are made holds).1, shares_again o cache.cache_bytes guests d m s x run.ran.done);
       failed = tt;
       refused = tt;
       shelf = keeps_files (share_task names cache o) d.shelf s (length names) (Ok x) h.got (refl, refl) (passed_all names cache o d.shelf s read (Ok x) h (sym (as_many d.shelf.contents names read h.stand))) (λ y. let never : ⊥ = cc in never);
       input = refl;
       ram = run.beyond;
-      causes = causes_behind d s m (Ok x) h.got.faults run.causes;
+      causes = causes_behind d s m (Ok x) h.got.faults run.ran.causes;
     }
 shared_answers names cache o d s out e ram read guests (Err r) size h made holds run =
     let m : Devices = shared_to d s out e ram in record {
-      asked = err_not r refusal.Usage run.refused (λ x. x);
-      sized = sized_along (size_refusal cache.cache_bytes (length d.ram.words)) (Err r) size (sized_err r (err_size r run.refused));
-      checked = λ files are. err_checked (share_checks cache o files) s.last_failed r run.refused (passes_all names cache o d.shelf s read guests files h are made holds).0;
-      long = none_long (share_task names cache o) d.shelf.contents r (err_short r run.refused);
+      asked = err_not r refusal.Usage run.ran.refused (λ x. x);
+      sized = sized_along (size_refusal cache.cache_bytes (length d.ram.words)) (Err r) size (sized_err r (err_size r run.ran.refused));
+      checked = λ files are. err_checked (share_checks cache o files) s.last_failed r run.ran.refused (passes_all names cache o d.shelf s read guests files h are made holds).0;
+      long = none_long (share_task names cache o) d.shelf.contents r (err_short r run.ran.refused);
       ended = tt;
       done = tt;
-      failed = λ fault files are. (guests, (passes_all names cache o d.shelf s read guests files h are made holds).1, failed_again o cache.cache_bytes guests d m s r (run.failed fault));
-      refused = λ never. let same_all : m ≡ record d { shelf = s } = run.memory (err_memory r run.refused never) in (
+      failed = λ fault files are. (guests, (passes_all names cache o d.shelf s read guests files h are made holds).1, failed_again o cache.cache_bytes guests d m s r (run.ran.failed fault));
+      refused = λ never. let same_all : m ≡ record d { shelf = s } = run.ran.quiet never in (
         record { input = refl; output = ap (λ (y : Devices). y.output) same_all; ram = ap (λ (y : Devices). y.ram) same_all },
         subst (λ (y : SinkState). Appends d.error.held y.held []) (sym (ap (λ (y : Devices). y.error) same_all)) (Appends-none d.error.held),
       );
-      shelf = keeps_files (share_task names cache o) d.shelf s (length names) (Err r) h.got (err_asked (length names) s.last_failed r run.refused)
-          (passed_all names cache o d.shelf s read (Err r) h (err_given s.last_failed (length names) (length read) r run.refused (sym (as_many d.shelf.contents names read h.stand)))) (err_not r refusal.ShelfFault run.refused (λ x. x));
+      shelf = keeps_files (share_task names cache o) d.shelf s (length names) (Err r) h.got (err_asked (length names) s.last_failed r run.ran.refused)
+          (passed_all names cache o d.shelf s read (Err r) h (err_given s.last_failed (length names) (length read) r run.ran.refused (sym (as_many d.shelf.contents names read h.stand)))) (err_not r refusal.ShelfFault run.ran.refused (λ x. x));
       input = refl;
       ram = run.beyond;
-      causes = causes_behind d s m (Err r) h.got.faults run.causes;
+      causes = causes_behind d s m (Err r) h.got.faults run.ran.causes;
     }

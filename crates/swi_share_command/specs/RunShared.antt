@@ -1,5 +1,5 @@
 -- The command `share`: the programs of several files over one cache, an original instruction of one of them at a time.
-use Rattle.std.specs.Prelude.{◌≡◌, ◌⊎◌, ℕ, ◌+◌, ◌-◌, ◌*◌, ◌/◌, ◌%◌, ◌^◌, ◌<◌, ◌≤◌, max, min, nat_le, true, false, List, [], ◌∷◌, ◌++◌, length, map, take, ⊤, slice_get, slice_index_or, Option, Some, None, Result, Ok, IfOk, IfErr, IsErrOf, All, if◌then◌else◌}
+use Rattle.std.specs.Prelude.{◌≡◌, ◌⊎◌, ℕ, ◌+◌, ◌-◌, ◌*◌, ◌/◌, ◌%◌, ◌^◌, ◌<◌, ◌≤◌, max, min, nat_le, true, false, List, [], ◌∷◌, ◌++◌, length, map, take, ⊤, slice_get, slice_index_or, Option, Some, None, Result, Ok, All, if◌then◌else◌}
 use Rattle.std.specs.List.{AllZip, flat_map, range_with_len}
 use Rattle.std.specs.Io.KnownBytes.{Appends}
 use Rattle.swi_outside.specs.CacheRam.{Fetch, KeepsBeyond, RamState}
@@ -39,10 +39,10 @@ use Rattle.swi_answer.specs.declared.answer.Ending.TheVariants as ending
 use Rattle.swi_answer.specs.declared.answer.Refusal.{Refusal}
 use Rattle.swi_answer.specs.declared.answer.Refusal.TheVariants as refusal
 use Rattle.swi_answer.specs.Lines.{guest_line}
-use Rattle.swi_task.specs.Answers.{IsLast, IsLastLonger, IsRunFault, StandFirst}
-use Rattle.swi_task.specs.Causes.{HasCauses}
+use Rattle.swi_task.specs.Answers.{IsLast, IsLastLonger, StandFirst}
 use Rattle.swi_task.specs.Checks.{InRam, Check, IsShort, IsAcceptedElf, HasRoom, IsAcceptedImage, IsOwnImage, FitsUnlessImage, HoldsBlock, IsAccepted, IsRefusedBy, block_words, room_in}
 use Rattle.swi_task.specs.Devices.{Devices}
+use Rattle.swi_task.specs.Over.{IsUnfedErr, RanOver}
 use Rattle.swi_task.specs.Runs.{ending_by}
 use Rattle.swi_task.specs.Subject.{IsImageFor}
 use Rattle.swi_task.specs.Task.{GaveFirst, Task, TellsAll}
@@ -146,15 +146,15 @@ share_report o s = guest_lines s.contexts ++ (if o.stats then shared_text_of (sh
 -- ---- what the command does
 
 -- each placed block of program g stands in its slot word for word, but that at each link there is a jump to its target's place
-abbrev pub IsPlaced : Shared → ℕ → Context → List ℕ → Type 0
-IsPlaced s g c words = Coherent c.image (record s.kept { turn = g }) (span_of s.setting) words
+abbrev pub BlocksStand : Shared → ℕ → Context → List ℕ → Type 0
+BlocksStand s g c words = Coherent c.image (record s.kept { turn = g }) (span_of s.setting) words
 
 -- The ram has fetched and written what the events have, just these words in their order, each behind as many sets, and each word that can't
 -- have been written is as it was. The words that were fetched are the machine instructions of all programs, but for those that fetch none.
 pub record RamShared (order : List ℕ) (first s : Shared) (before after : RamState) : Type 0 where
   pub ran : RamRan (span_of s.setting) s.fetches (writes s.kept) before after
   pub words : HasFetched s.words before after
-  pub coherent : (g : ℕ) (c : Context) → slice_index_or s.contexts g None ≡ Some c → IsPlaced s g c after.words
+  pub coherent : (g : ℕ) (c : Context) → slice_index_or s.contexts g None ≡ Some c → BlocksStand s g c after.words
   pub unused : SameFrom (extent_of s.setting s.kept) before.words after.words
   pub fetched : counts_of s.contexts ≡ s.fetches + unfetched order first
 
@@ -330,21 +330,10 @@ abbrev pub FilesUnread : RunLimits → ℕ → List (List ℕ) → ShelfState �
 FilesUnread limits most names old new r =
     ((r ≡ refusal.ShelfFault) × ShelfBroke limits most names old new) ⊎ FilesRefused limits most names old new r
 
--- why programs over a cache are refused
-abbrev pub IsShareErr : Refusal → Type 0
-IsShareErr refusal.SinkFault = ⊤
-IsShareErr refusal.RamFault = ⊤
-IsShareErr refusal.Memory = ⊤
-IsShareErr _ = ⊥
-
--- what programs do over a cache of so many bytes: they come to their end, or a device fails in an event or behind them; or there was no memory
+-- what programs do over a cache of so many bytes
 pub record SharesOver (o : ShareOptions) (bytes : ℕ) (guests : List Guest) (before after : Devices) (result : Result Ending Refusal) : Type 0 where
-  pub done : IfOk result (λ e. Shares o bytes guests before after e [])
-  pub refused : IfErr result IsShareErr
-  pub memory : IsErrOf result refusal.Memory → after ≡ before
-  pub failed : IfErr result (λ r. IsRunFault r → ShareFailed o bytes guests before after r [])
+  pub ran : RanOver IsUnfedErr (λ e. Shares o bytes guests before after e []) (λ r. ShareFailed o bytes guests before after r []) before after result
   pub beyond : KeepsBeyond (bytes / 4) before.ram after.ram
-  pub causes : HasCauses before after result
 
 -- none of these programs goes on
 abbrev pub HaveEnded : List (Option Context) → Type 0

@@ -1,5 +1,5 @@
 -- What `survey` answers, from what the run of its file's program does.
-use Rattle.std.proofs.Common.{◌≡◌, ◌⊎◌, inl, inr, ℕ, ◌-◌, ◌<◌, ◌≤◌, List, [], ◌∷◌, ◌++◌, length, take, map, Option, None, Some, Result, Ok, Err, IsErrOf, refl, sym, ◌∙◌, subst, ap, arith, false}
+use Rattle.std.proofs.Common.{◌≡◌, ◌⊎◌, inl, inr, ℕ, ◌-◌, ◌<◌, ◌≤◌, List, [], ◌∷◌, ◌++◌, length, take, Option, None, Some, Result, Ok, Err, refl, sym, ◌∙◌, subst, ap, arith, false}
 use Rattle.std.proofs.lemmas.List.{append-nil}
 use Rattle.std.specs.Io.KnownBytes.{Appends}
 use Rattle.swi_outside.specs.CacheRam.{RamState}
@@ -26,7 +26,7 @@ use Rattle.swi_calls.specs.Flat.{flat_run, flat_start, machine_of, started}
 use Rattle.swi_calls.specs.Held.{held_run}
 use Rattle.swi_calls.specs.Laws.{held_is_flat}
 use Rattle.swi_calls.specs.State.{FlatState}
-use Rattle.swi_flat.specs.FlatData.{FlatData, next_made, state_at}
+use Rattle.swi_flat.specs.FlatData.{FlatData, state_at}
 use Rattle.swi_flat.proofs.ToldRuns.{RanTold, ran_as_told}
 use Rattle.swi_cached.proofs.Failed.{is_flat_run, stops_before_store}
 use Rattle.swi_survey.specs.declared.survey.Surveyed.{Surveyed}
@@ -41,15 +41,15 @@ use Rattle.swi_cached_task.specs.Placing.{placed_checks}
 use Rattle.swi_task.specs.Answers.{Answers, IsChecked, IsRunFault}
 use Rattle.swi_task.specs.Causes.{HasCauses}
 use Rattle.swi_task.specs.Checks.{IsAccepted, first_size_refusal, room_in}
-use Rattle.swi_task.specs.Devices.{Devices, stream_faults}
-use Rattle.swi_task.specs.Runs.{FailedAfterRun, Ran, StepFailed, ending_by, start_of}
+use Rattle.swi_task.specs.Devices.{Devices, stream_faults, streams_of}
+use Rattle.swi_task.specs.Over.{IsRunErr}
+use Rattle.swi_task.specs.Runs.{Ran, StepFailed, ending_by}
 use Rattle.swi_task.specs.Subject.{IsImageFor}
 use Rattle.swi_task.proofs.Lines.{IsLined, after_line, after_run_line, at_step_line, holds_then, ran_line, told_to}
 use Rattle.swi_task.proofs.Refusals.{IsRead, calm_causes, causes_behind, keeps_read, none_long, out_causes, read_is, sized_along, sized_err, sized_ok}
 use Rattle.swi_task.proofs.Starts.{start_is}
-use Rattle.swi_file_commands.specs.RunFlat.{read_room_of}
-use Rattle.swi_file_commands.proofs.Running.{from_none, refusal_of as flat_refusal, run_causes, run_to, step_failed, streams_of}
-use Rattle.swi_cached_task.specs.Caching.{IsRunErr}
+use Rattle.swi_file_commands.specs.RunFlat.{flat_coming, untold_steps}
+use Rattle.swi_file_commands.proofs.Running.{from_none, refusal_of as flat_refusal, run_causes, run_to, step_failed}
 use Rattle.swi_cached_task.proofs.Caching.{run_err_asked, run_err_checked, run_err_given, run_err_not, run_err_short, run_err_size}
 use Rattle.swi_survey_command.specs.RunSurvey.{SurveyBroke, SurveyFailed, SurveyRun, Surveys, SurveysOver, counting, limit_of, refusal_of, run_through, survey_from, survey_lines, survey_of, survey_task, surveyed}
 use Rattle.swi_survey_command.proofs.Counting.{run_as}
@@ -186,8 +186,8 @@ broke_at r first left d m f input start whole none told ran unstored =
     inl (record {
       steps = n;
       fewer = ran.uncounted;
-      failed = subst (λ (x : FlatState). StepFailed x x.error (next_made x) (read_room_of x) d m (refusal_of (stop.Fault f)) []) so
-          (subst (λ (x : Refusal). StepFailed state state.error (next_made state) (read_room_of state) d m x []) (same_refusal f)
+      failed = subst (λ (x : FlatState). StepFailed (flat_coming x) d m (refusal_of (stop.Fault f)) []) so
+          (subst (λ (x : Refusal). StepFailed (flat_coming state) d m x []) (same_refusal f)
           (step_failed {T = Unit {0}} f state left.machine.bus d m going (ran.output_part input told) (ran.error_part input told) (λ x. ran.failed_input x input told) (λ rose. ran.failed_output rose input told) (λ rose. ran.failed_error rose input told) (ran.front input told)
           (record { output = ran.unasked_output input told; error = ran.unasked_error input told })));
     })
@@ -228,24 +228,7 @@ run_stopped k sizes limits v p l d i j o n e f (stop.Fault x) input rest read h 
 
 failed_again : (r : SurveyRun) (d m : Devices) (s : ShelfState) (f : Refusal) → SurveyFailed r (record d { shelf = s }) m f [] → SurveyFailed r d m f []
 failed_again r d m s f h = failed_so r d m f [] (elim h.broke [
-  | inl a ↦ inl (record {
-    steps = a.steps;
-    fewer = a.fewer;
-    failed = let b = a.failed in record {
-      fault = b.fault;
-      going = b.going;
-      output = b.output;
-      error_front = b.error_front;
-      error = b.error;
-      source = b.source;
-      output_failed = b.output_failed;
-      error_failed = b.error_failed;
-      unasked = b.unasked;
-      taken = b.taken;
-      no_more = b.no_more;
-      input = b.input;
-    };
-  })
+  | inl a ↦ inl a
   | inr a ↦ inr (record { output_front = a.output_front; output = a.output; error_front = a.error_front; error = a.error; behind = a.behind; input = a.input; fault = a.fault })
 ])
 
@@ -323,7 +306,7 @@ survey_lined name sizes block k limits = record {
     h.0,
     h.1,
     λ input is. failed_so (survey_of k sizes limits file h.0 input) d (holds_then m held) r line (elim (h.2 input is).broke [
-      | inl a ↦ inl (at_step_line (surveyed (survey_of k sizes limits file h.0 input)) _ _ _ limits.steps d m r held line a p)
+      | inl a ↦ inl (at_step_line (untold_steps (surveyed (survey_of k sizes limits file h.0 input)) limits.steps) d m r held line a p)
       | inr a ↦ inr (after_run_line _ _ [] d m r held line a p)
     ]),
   );

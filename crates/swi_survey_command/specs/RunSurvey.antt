@@ -1,5 +1,5 @@
 -- The command `survey`: one run of a program, and the counts of many caches.
-use Rattle.std.specs.Prelude.{◌≡◌, ◌⊎◌, ℕ, List, [], ◌∷◌, true, false, Some, None, Result, IfOk, IfErr, ⊤}
+use Rattle.std.specs.Prelude.{◌≡◌, ◌⊎◌, ℕ, List, [], ◌∷◌, true, false, Some, None, Result, ⊤}
 use Rattle.std.specs.List.{flat_map}
 use Rattle.swi_elf_read.specs.Loaded.{image_of as image_in}
 use Rattle.swi_memory.specs.declared.layout.Layout.{Layout}
@@ -13,23 +13,21 @@ use Rattle.swi_calls.specs.State.{FlatState}
 use Rattle.swi_calls.specs.Flat.{flat_start}
 use Rattle.swi_calls.specs.Held.{held_run}
 use Rattle.swi_calls.specs.declared.end.CallFault.TheVariants as call
-use Rattle.swi_flat.specs.FlatData.{next_made}
 use Rattle.swi_survey.specs.declared.survey.SurveyStop.{SurveyStop}
 use Rattle.swi_survey.specs.declared.survey.SurveyStop.TheVariants as stop
-use Rattle.swi_file_commands.specs.RunFlat.{read_room_of}
+use Rattle.swi_file_commands.specs.RunFlat.{untold_steps}
 use Rattle.swi_cached.specs.Cached.{CachedRun, IsFlatRun, StopsBeforeStore, end_of}
 use Rattle.swi_answer.specs.declared.answer.Ending.{Ending}
 use Rattle.swi_answer.specs.declared.answer.Refusal.{Refusal}
 use Rattle.swi_answer.specs.declared.answer.Refusal.TheVariants as refusal
-use Rattle.swi_task.specs.Answers.{IsRunFault}
-use Rattle.swi_task.specs.Causes.{HasCauses}
 use Rattle.swi_task.specs.Checks.{CountedFor}
 use Rattle.swi_task.specs.Devices.{Devices}
+use Rattle.swi_task.specs.Over.{IsRunErr, RanOver}
 use Rattle.swi_task.specs.Runs.{Ran, FailedAtStep, FailedAfterRun, start_of}
 use Rattle.swi_task.specs.Subject.{IsImageFor}
 use Rattle.swi_task.specs.Task.{Task}
 use Rattle.swi_cached_task.specs.Placing.{placed_checks}
-use Rattle.swi_cached_task.specs.Caching.{IsRunErr, cache_by, cached_run, work_of}
+use Rattle.swi_cached_task.specs.Caching.{cache_by, cached_run, work_of}
 use Rattle.swi_survey_command.specs.Rows.{size_line}
 
 -- what `cached --stats` is asked for, with these limits
@@ -78,7 +76,7 @@ pub record Surveys (r : SurveyRun) (before after : Devices) (e : Ending) (last :
 -- a source or a sink failed, in the run or behind it
 abbrev pub SurveyBroke : SurveyRun → Devices → Devices → Refusal → List ℕ → Type 0
 SurveyBroke r before after f last =
-    FailedAtStep (surveyed r) (λ s. s.error) next_made read_room_of (limit_of r) before after f last
+    FailedAtStep (untold_steps (surveyed r) (limit_of r)) before after f last
     ⊎ FailedAfterRun (surveyed r (limit_of r)) (survey_lines r) [] before after f last
 
 pub record SurveyFailed (r : SurveyRun) (before after : Devices) (f : Refusal) (last : List ℕ) : Type 0 where
@@ -120,10 +118,9 @@ refusal_of (stop.Fault call.SinkFault) = refusal.SinkFault
 abbrev pub survey_from : CacheKind → List ℕ → RunLimits → ImageData → ProgramData → Layout → List ℕ → SurveyRun
 survey_from kind sizes limits v p l input = record { image = v; kind = kind; sizes = sizes; limits = limits; start = flat_start p l false input }
 
--- what it does: it comes to its end, or a device fails in it or behind it; or there was no memory
-pub record SurveysOver (r : List ℕ → SurveyRun) (before after : Devices) (result : Result Ending Refusal) : Type 0 where
-  pub done : IfOk result (λ e. (input : List ℕ) → before.input.left ≡ Some input → Surveys (r input) before after e [])
-  pub refused : IfErr result IsRunErr
-  pub quiet : IfErr result (λ f. (IsRunFault f → ⊥) → after ≡ before)
-  pub failed : IfErr result (λ f. IsRunFault f → (input : List ℕ) → before.input.left ≡ Some input → SurveyFailed (r input) before after f [])
-  pub causes : HasCauses before after result
+-- what it does, whatever its input tells
+abbrev pub SurveysOver : (List ℕ → SurveyRun) → Devices → Devices → Result Ending Refusal → Type 0
+SurveysOver r before after result = RanOver IsRunErr
+    (λ e. (input : List ℕ) → before.input.left ≡ Some input → Surveys (r input) before after e [])
+    (λ f. (input : List ℕ) → before.input.left ≡ Some input → SurveyFailed (r input) before after f [])
+    before after result

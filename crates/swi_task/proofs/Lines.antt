@@ -14,7 +14,7 @@ use Rattle.swi_answer.specs.declared.answer.Refusal.TheVariants as refusal
 use Rattle.swi_answer.specs.Lines.{ending_line, refusal_line}
 use Rattle.std.proofs.Math.Seq.{take-append-add}
 use Rattle.swi_calls.specs.State.{FlatState}
-use Rattle.swi_calls.specs.Flat.{Made}
+use Rattle.swi_outcome.specs.Broken.{Coming, Steps}
 use Rattle.swi_task.specs.Devices.{Devices, ShowsLine, stream_faults}
 use Rattle.swi_task.specs.Causes.{HasCauses}
 use Rattle.swi_task.specs.Checks.{cache_refusal}
@@ -48,33 +48,29 @@ rose_above a b c h r = omega arith
 pub errors_later : {T : Type 0} (d m : Devices) (r : Result T Refusal) → HasCauses d m r → d.error.faults ≤ m.error.faults
 errors_later d m r h = h.streams.sinks.other_later
 
-pub step_line : (s : FlatState) (begun : List ℕ) (next : Made) (most : ℕ) (d m : Devices) (r : Refusal) (held : Option (List ℕ)) (line : List ℕ) →
-    StepFailed s begun next most d m r [] → Appends m.error.held held line → StepFailed s begun next most d (holds_then m held) r line
-step_line s begun next most d m r held line h p = record {
+pub step_line : (c : Coming) (d m : Devices) (r : Refusal) (held : Option (List ℕ)) (line : List ℕ) →
+    StepFailed c d m r [] → Appends m.error.held held line → StepFailed c d (holds_then m held) r line
+step_line c d m r held line h p = record {
   fault = h.fault;
   going = h.going;
   output = h.output;
   error_front = h.error_front;
-  error = appends_last d.error.held m.error.held held (s.error ++ take h.error_front next.error) line h.error p;
+  error = appends_last d.error.held m.error.held held (c.state.error ++ take h.error_front c.next.error) line h.error p;
   unasked = h.unasked;
-  output_failed = λ rose. appends_last d.error.held m.error.held held begun line (h.output_failed rose) p;
+  output_failed = λ rose. appends_last d.error.held m.error.held held c.begun line (h.output_failed rose) p;
   error_failed = λ rose. elim (h.error_failed rose) [
-    | inl at ↦ inl (at.0, at.1, at.2, at.3, (at.4.0, appends_last d.error.held m.error.held held (s.error ++ take at.4.0 at.0) line at.4.1 p))
+    | inl at ↦ inl (at.0, at.1, at.2, at.3, (at.4.0, appends_last d.error.held m.error.held held (c.state.error ++ take at.4.0 at.0) line at.4.1 p))
     | inr all ↦ inr all
   ];
-  source = λ e. let both = h.source e in (both.0, appends_last d.error.held m.error.held held begun line both.1 p);
+  source = λ e. let both = h.source e in (both.0, appends_last d.error.held m.error.held held c.begun line both.1 p);
   taken = h.taken;
   no_more = h.no_more;
   input = h.input;
 }
 
-pub at_step_line : (run : ℕ → FlatState) (begun : FlatState → List ℕ) (next : FlatState → Made) (most : FlatState → ℕ) (limit : ℕ) (d m : Devices) (r : Refusal) (held : Option (List ℕ)) (line : List ℕ) →
-    FailedAtStep run begun next most limit d m r [] → Appends m.error.held held line → FailedAtStep run begun next most limit d (holds_then m held) r line
-at_step_line run begun next most limit d m r held line h p = record {
-  steps = h.steps;
-  fewer = h.fewer;
-  failed = step_line (run h.steps) (begun (run h.steps)) (next (run h.steps)) (most (run h.steps)) d m r held line h.failed p;
-}
+pub at_step_line : (run : Steps) (d m : Devices) (r : Refusal) (held : Option (List ℕ)) (line : List ℕ) →
+    FailedAtStep run d m r [] → Appends m.error.held held line → FailedAtStep run d (holds_then m held) r line
+at_step_line run d m r held line h p = record { steps = h.steps; fewer = h.fewer; failed = step_line (run.coming h.steps) d m r held line h.failed p }
 
 pub after_run_line : (s : FlatState) (report tail : List ℕ) (d m : Devices) (r : Refusal) (held : Option (List ℕ)) (line : List ℕ) →
     FailedAfterRun s report tail d m r [] → Appends m.error.held held line → FailedAfterRun s report tail d (holds_then m held) r line

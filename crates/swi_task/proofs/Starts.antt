@@ -1,5 +1,5 @@
 -- Where a run of a file's program starts.
-use Rattle.std.proofs.Common.{◌≡◌, ℕ, List, Result, Ok, sym, ap}
+use Rattle.std.proofs.Common.{◌≡◌, ℕ, List, Ok, sym, ap}
 use Rattle.swi_memory.specs.declared.layout.Layout.{Layout}
 use Rattle.swi_program.specs.ProgramOf.{program_of_file}
 use Rattle.swi_calls.specs.Flat.{flat_start}

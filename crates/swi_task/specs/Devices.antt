@@ -18,7 +18,11 @@ pub record Devices : Type 0 where
 abbrev pub seen : ShelfState → SourceState → SinkState → SinkState → RamState → Devices
 seen s i o e r = record { shelf = s; input = i; output = o; error = e; ram = r }
 
--- the counts of faults of the input and the sinks
+-- the input and the sinks
+abbrev pub streams_of : Devices → outside.Devices
+streams_of d = record { input = d.input; output = d.output; error = d.error }
+
+-- their counts of faults
 abbrev pub stream_faults : Devices → outside.Faults
 stream_faults d = record { input = d.input.faults; output = d.output.faults; error = d.error.faults }
 

@@ -7,3 +7,4 @@ pub mod Answers
 pub mod Subject
 pub mod Runs
 pub mod Puts
+pub mod Over

@@ -1,8 +1,7 @@
 -- The run of a file's program, and what it leaves. The machine is that of the RISC-V unprivileged specification.
-use Rattle.std.specs.Prelude.{◌≡◌, ◌⊎◌, ℕ, ◌<◌, ◌≤◌, List, [], ◌++◌, length, take, Option, Some, None, Result, Ok, Err, if◌then◌else◌}
-use Rattle.std.specs.Io.KnownBytes.{Appends, Consumes}
+use Rattle.std.specs.Prelude.{◌≡◌, ◌⊎◌, ℕ, List, [], ◌++◌, length, take, Option, Some, None, Result, Ok, Err, if◌then◌else◌}
+use Rattle.std.specs.Io.KnownBytes.{Appends}
 use Rattle.swi_outside.specs.Causes.{Rose}
-use Rattle.swi_outside.specs.Sink.{AppendsThenPrefix}
 use Rattle.swi_exec.specs.Registers.{Registers}
 use Rattle.swi_memory.specs.Bus.{AreaData}
 use Rattle.swi_memory.specs.declared.layout.Layout.{Layout}
@@ -14,10 +13,11 @@ use Rattle.swi_calls.specs.declared.end.End.{End}
 use Rattle.swi_calls.specs.declared.end.End.TheVariants as end
 use Rattle.swi_calls.specs.declared.machine.Machine.{Machine}
 use Rattle.swi_calls.specs.State.{FlatState}
-use Rattle.swi_calls.specs.Flat.{Made, flat_start}
+use Rattle.swi_calls.specs.Flat.{flat_start}
 use Rattle.swi_hart.specs.declared.fault.BoardFault.{BoardFault}
 use Rattle.swi_hart.specs.declared.fault.BoardFault.TheVariants as fault
-use Rattle.swi_board.specs.Ran.{Unasked}
+use Rattle.swi_outcome.specs.Broken as outcome
+use Rattle.swi_outcome.specs.Broken.{Coming, Names, Steps}
 use Rattle.swi_report.specs.declared.stats.Work.{Work}
 use Rattle.swi_report.specs.State.{state_text_of}
 use Rattle.swi_report.specs.Stats.{stats_text_of}
@@ -26,7 +26,7 @@ use Rattle.swi_answer.specs.declared.answer.Ending.TheVariants as ending
 use Rattle.swi_answer.specs.declared.answer.Refusal.{Refusal}
 use Rattle.swi_answer.specs.declared.answer.Refusal.TheVariants as refusal
 use Rattle.swi_answer.specs.Lines.{ending_line}
-use Rattle.swi_task.specs.Devices.{Devices, stream_faults}
+use Rattle.swi_task.specs.Devices.{Devices, streams_of}
 use Rattle.swi_task.specs.Checks.{room_in}
 
 abbrev pub layout_in : Result Layout Room → Layout
@@ -71,39 +71,16 @@ pub record Ran (s : FlatState) (report : List ℕ) (before after : Devices) (e :
   pub output : Appends before.output.held after.output.held (s.output ++ report)
   pub error : Appends before.error.held after.error.held (s.error ++ last)
 
--- The error sink failed at what is told of the next step before it is made, of which a front was written; the step was not begun.
-abbrev pub FailedAtLine : FlatState → (begun last : List ℕ) → Devices → Devices → Type 0
-FailedAtLine s begun last before after = (told : List ℕ) × (begun ≡ s.error ++ told) × (told ≡ [] → ⊥)
-    × Appends before.output.held after.output.held s.output
-    × ((front : ℕ) × Appends before.error.held after.error.held ((s.error ++ take front told) ++ last))
+-- what a refusal calls a failed source, and a failed sink
+abbrev pub refusal_names : Names Refusal
+refusal_names = record { source = refusal.SourceFault; sink = refusal.SinkFault }
 
--- A source or a sink failed in a state, at the step that would come next, which takes so many bytes of the input at most. Where the source
--- fails, the errors hold `begun`.
-pub record StepFailed (s : FlatState) (begun : List ℕ) (next : Made) (most : ℕ) (before after : Devices) (r : Refusal) (last : List ℕ) : Type 0 where
-  pub fault : (r ≡ refusal.SourceFault) ⊎ (r ≡ refusal.SinkFault)
-  pub going : s.machine.ending ≡ None
-  -- the sinks gained what the steps so far wrote, and then a front of what the next one writes
-  pub output : AppendsThenPrefix before.output.held after.output.held s.output next.output
-  pub error_front : ℕ
-  pub error : Appends before.error.held after.error.held ((s.error ++ take error_front next.error) ++ last)
-  -- and nothing of that but what was told of it before, where the source failed
-  pub source : r ≡ refusal.SourceFault → Appends before.output.held after.output.held s.output × Appends before.error.held after.error.held (begun ++ last)
-  -- what that step writes to the output comes before what it writes to the errors, as the line of a call comes behind the call's output: where
-  -- the output failed, the errors hold nothing of it but what was told before; where they failed behind that, the output has all of it
-  pub output_failed : (after.output.faults ≡ before.output.faults → ⊥) → Appends before.error.held after.error.held (begun ++ last)
-  pub error_failed : (after.error.faults ≡ before.error.faults → ⊥) → FailedAtLine s begun last before after ⊎ Appends before.output.held after.output.held (s.output ++ next.output)
-  -- a sink to which that step gives nothing was not asked by it
-  pub unasked : Unasked next (stream_faults before) (stream_faults after)
-  -- of the input what those steps took is gone, and a front of what the next one reads
-  pub taken : List ℕ
-  pub no_more : length taken ≤ most
-  pub input : Consumes (Some s.input) after.input.left taken
+-- A source or a sink failed at the step that would come next, or at one of a run's.
+abbrev pub StepFailed : Coming → Devices → Devices → Refusal → List ℕ → Type 0
+StepFailed c before after r last = outcome.StepFailed refusal_names c (streams_of before) (streams_of after) r last
 
--- A source or a sink failed in a run: after so many steps, fewer than its limit.
-pub record FailedAtStep (run : ℕ → FlatState) (begun : FlatState → List ℕ) (next : FlatState → Made) (most : FlatState → ℕ) (limit : ℕ) (before after : Devices) (r : Refusal) (last : List ℕ) : Type 0 where
-  pub steps : ℕ
-  pub fewer : steps < limit
-  pub failed : StepFailed (run steps) (begun (run steps)) (next (run steps)) (most (run steps)) before after r last
+abbrev pub FailedAtStep : Steps → Devices → Devices → Refusal → List ℕ → Type 0
+FailedAtStep run before after r last = outcome.FailedAtStep refusal_names run (streams_of before) (streams_of after) r last
 
 -- Which sink failed behind a run: the output, at a report that has bytes; or, where the report is whole, the error sink, at lines that have
 -- bytes.

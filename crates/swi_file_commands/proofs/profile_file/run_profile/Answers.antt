@@ -5,7 +5,6 @@ use Rattle.swi_memory.specs.declared.word_range.WordRange.{WordRange}
 use Rattle.swi_program.specs.Text.{TextData}
 use Rattle.swi_calls.specs.declared.end.End.{End}
 use Rattle.swi_calls.specs.declared.end.CallFault.{CallFault}
-use Rattle.swi_answer.specs.declared.answer.Refusal.TheVariants as refusal
 use Rattle.swi_profile.specs.Executions.{range_of}
 use Rattle.swi_task.specs.Devices.{Devices}
 use Rattle.swi_task.specs.Runs.{ending_by}
