@@ -1,7 +1,7 @@
 """Instructions of the computer that built programs take, counted by valgrind: counts.py PROGRAM..
 
 A step: between the 10^6th and the 3 * 10^6th of each guest; where blocks are copied all the time, between the 10^5th and the 10^6th. A step of
-`prefetch` and an event of `share`: between the 10^5th and the 3 * 10^5th. A miss, with all that follows it: the second 10^6 steps of
+`trace` and `prefetch` and an event of `share`: between the 10^5th and the 3 * 10^5th. A miss, with all that follows it: the second 10^6 steps of
 guests/mix.elf through a small cache, less what they take through one in which each block stays, by the misses among them. The output: a row a
 machine, a column a guest, in the order of GUESTS and THRASHING."""
 import re
@@ -19,7 +19,9 @@ MACHINES = {
     "survey 11": ["survey", *map(str, ELEVEN), "--block", "32"],
     "survey 64": ["survey", *map(str, SIXTY_FOUR), "--block", "32"],
 }
-SCHEDULES = [
+STEPWISE = [
+    ["trace", "bench/loop.elf"],
+    ["trace", "bench/loop.elf", "--last"],
     ["prefetch", "bench/loop.elf", "--rate", "1"],
     ["prefetch", "bench/calls.elf", "--rate", "1"],
     ["prefetch", "bench/loop.elf", "--rate", "4"],
@@ -62,8 +64,8 @@ def print_thrashing(program):
         print(f"{machine:12}", *(f"{count:6.1f}" for count in each), "  where it thrashes", flush=True)
 
 
-def print_schedules(program):
-    for words in SCHEDULES:
+def print_stepwise(program):
+    for words in STEPWISE:
         each = between(instructions, [program, *words], START, 3 * START) / (2 * START)
         print(f"{each:6.1f}  {' '.join(words)}", flush=True)
 
@@ -79,5 +81,5 @@ def print_misses(program):
 for program in sys.argv[1:]:
     print_steps(program)
     print_thrashing(program)
-    print_schedules(program)
+    print_stepwise(program)
     print_misses(program)
