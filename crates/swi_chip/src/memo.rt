@@ -2,7 +2,7 @@
 #![tactic(auto)]
 
 ghost use Rattle.std.specs.Prelude.{◌≡◌, ◌+◌, ◌/◌, ◌%◌, ◌<◌, ℕ, true, false, length, slice_index};
-ghost use Rattle.swi_chip.specs.Memo.{HasNone};
+ghost use Rattle.swi_chip.specs.Memo.{Forgets, HasNone};
 
 /// Empties the memo: each entry has a target of another entry's number.
 #[inline(always)]
@@ -20,8 +20,7 @@ pub fn empty(memo: &mut [u32])
 #[inline(always)]
 pub fn forget(memo: &mut [u32], leaves: bool)
     requires { length memo.old ≡ 17 }
-    ensures left { leaves ≡ true → (slice_index memo.old 0 ≡ 0 → ⊥) → HasNone memo.new }
-    ensures stays { leaves ≡ false → memo.new ≡ memo.old }
+    ensures { Forgets leaves memo.old memo.new }
 {
     if leaves && memo[0] != 0 {
         empty(memo);

@@ -8,6 +8,7 @@ ghost use Rattle.swi_image.specs.Sound.{IsImage};
 ghost use Rattle.swi_slots.specs.Slots.{Slots};
 ghost use Rattle.swi_slots.specs.Steps.{wrapped};
 ghost use Rattle.swi_slots.specs.Keys.{Images};
+ghost use Rattle.swi_chip.specs.Memo.{Forgets};
 ghost use Rattle.swi_chip.specs.Undone.{begin_in};
 ghost use Rattle.swi_chip.specs.Service.{CanCross, CanCrossNew, CanEnterNew, CanFill, CanLinkHere, CanLinkExit, CountsRefused, CountedMiss, CountedService, Crosses, CrossesNew, Enters, EntersNew, HasArrived, HasTables, IsSome, LinkedExit, Exits, CanExit, StandsFor, StaysPut, ToFill, ToLinkExit};
 
@@ -106,6 +107,7 @@ fn fill(chip: &mut Chip<'_>, block: u32) -> u32
     ensures arrived { (s : Slots) (vs : Images) (ram : List ℕ) (lists : List (List ℕ)) → ToFill s vs ram lists block chip.old →
         HasArrived s vs ram block result chip.new }
     ensures bound { CountsRefused false chip.old chip.new }
+    ensures memo { Forgets (chip.old.filled == chip.old.slots) chip.old.memo.now chip.new.memo.now }
     ensures stays { StaysPut chip.old chip.new }
 {
     let slot = chip.next;
@@ -208,6 +210,7 @@ fn link_here(chip: &mut Chip<'_>, at: u32, slot: u32, to: u32)
     requires can { CanLinkHere chip.old at slot to }
     ensures linked { (t : Slots) (vs : Images) (words : List ℕ) (lists : List (List ℕ)) (home : ℕ) → ToLinkExit t vs words lists at home slot to chip.old →
         slice_index chip.old.blocks.now (at / chip.old.size.words) ≡ home → LinkedExit t vs words lists at home slot to chip.old chip.new }
+    ensures memo { chip.new.memo.now ≡ chip.old.memo.now }
     ensures stays { StaysPut chip.old chip.new }
 {
     if u32::from(chip.links[slot as usize]) >= chip.most {
@@ -224,6 +227,7 @@ fn link_exit(chip: &mut Chip<'_>, at: u32, home: u32, slot: u32, to: u32)
     requires can { CanLinkExit chip.old at home slot to }
     ensures linked { (t : Slots) (vs : Images) (words : List ℕ) (lists : List (List ℕ)) → ToLinkExit t vs words lists at home slot to chip.old →
         LinkedExit t vs words lists at home slot to chip.old chip.new }
+    ensures memo { chip.new.memo.now ≡ chip.old.memo.now }
     ensures stays { StaysPut chip.old chip.new }
 {
     let row = chip.size.slot_of(at);

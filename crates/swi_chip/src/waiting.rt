@@ -57,6 +57,7 @@ fn undo_first(chip: &mut Chip<'_>)
     ensures undone { Undoes 1 chip.old chip.new }
     ensures stays { StaysPut chip.old chip.new }
     ensures bound { CountsRefused false chip.old chip.new }
+    ensures memo { chip.new.memo.now ≡ chip.old.memo.now }
     ensures full { chip.new.filled ≡ chip.old.filled }
     ensures slots { chip.new.slots ≡ chip.old.slots }
 {
@@ -78,6 +79,7 @@ pub fn undo_portion(chip: &mut Chip<'_>)
     ensures undone { Undoes portion chip.old chip.new }
     ensures stays { StaysPut chip.old chip.new }
     ensures bound { CountsRefused false chip.old chip.new }
+    ensures memo { chip.new.memo.now ≡ chip.old.memo.now }
 {
     for _k in 0..PORTION {
         undo_first(chip);

@@ -1,5 +1,6 @@
-use Rattle.std.proofs.Common.{ℕ, ◌+◌, ◌-◌, slice_index, ap, arith, refl, sym, ◌∙◌}
+use Rattle.std.proofs.Common.{◌==◌, ℕ, ◌+◌, ◌-◌, List, slice_index, ap, arith, refl, sym, subst, ◌∙◌}
 use Rattle.swi_rom.specs.Record.{direct}
+use Rattle.swi_chip.specs.Memo.{Forgets}
 use Rattle.swi_chip.specs.Service.{HasArrived}
 use Rattle.swi_chip.proofs.Calling.{called_again, called_free, over_none}
 use Rattle.swi_chip.proofs.Entering.{index_few, mark_low, place_known, to_fill}
@@ -76,7 +77,7 @@ returns-clause-served c = λ s vs ram lists k target is absent x b o f placed in
     let slot_is = c.slot_of-slot.ensures ∙ slot_found h in
     let to : ℕ = c.fill-first.result - 1 + c.args.offset in
     let le = to_link_exit k c.args.at target x is h home c.slot_of-slot.result to home_is slot_is (place_found h c.args.offset) in
-    called_free k c.args.block c.args.offset (direct b o target) is absent (sym c.crowded.ensures ∙ c.if-crowded.false)
+    called_free k c.args.block c.args.offset (direct b o target) is absent (sym c.crowded.ensures ∙ c.if-crowded.false) (subst (λ (m : List ℕ). Forgets (c.args.chip.now.filled == c.args.chip.now.slots) c.args.chip.now.memo.now m) (sym c.link_exit.ensures.memo) c.fill-first.ensures.memo)
     (crossed_some k c.args.at target x is h (record { most = c.fill-first.ensures.bound.most; refused = c.fill-first.ensures.bound.refused ∙ c.count_service.ensures.refused }) home c.slot_of-slot.result to c.link_exit.new.chip home_is slot_is (place_found h c.args.offset) (c.link_exit.ensures.linked h.next vs h.words h.lists le) b o f placed inside at_place
     c.address.result c.address.ensures c.link_exit.ensures.stays.cache_at))
 
@@ -85,4 +86,4 @@ undo_portion-requires c = (let x = c.requires.can in record { can = record { som
 
 pub returns-then-crowded-clause-served : goal.returns-then-crowded-clause-served
 returns-then-crowded-clause-served c = λ s vs ram lists k target is absent x b o f placed inside at_place.
-    called_again k c.args.block c.args.offset (direct b o target) is absent (over_none k c.args.at target b o f x placed inside at_place) (sym c.crowded.ensures ∙ c.if-crowded.true) (c.undo_portion.ensures.undone s vs ram lists k) c.undo_portion.ensures.bound c.undo_portion.ensures.stays.cache_at
+    called_again k c.args.block c.args.offset (direct b o target) is absent (over_none k c.args.at target b o f x placed inside at_place) (sym c.crowded.ensures ∙ c.if-crowded.true) (c.undo_portion.ensures.undone s vs ram lists k) c.undo_portion.ensures.bound c.undo_portion.ensures.stays.cache_at c.undo_portion.ensures.memo

@@ -43,7 +43,7 @@ returns-clause-served c = λ s vs ram lists k target is absent.
     (let p = place_known (vs s.turn) target c.args.block c.args.offset (k.serves.images s.turn) is in
     let x = c.requires.can in
     let h : HasArrived s vs ram c.args.block c.fill-mark.result c.fill-mark.new.chip = c.fill-mark.ensures.arrived s vs ram lists (to_fill k c.args.block p.0 c.count_service.new.counts c.count_service.ensures x.absent) in
-    called_free k c.args.block c.args.offset (indirect target) is absent (sym c.crowded.ensures ∙ c.if-crowded.false)
+    called_free k c.args.block c.args.offset (indirect target) is absent (sym c.crowded.ensures ∙ c.if-crowded.false) c.fill-mark.ensures.memo
     (entered_some {s = s} {vs = vs} {ram = ram} {c = c.args.chip.now} (record { most = c.fill-mark.ensures.bound.most; refused = c.fill-mark.ensures.bound.refused ∙ c.count_service.ensures.refused }) target c.args.block c.args.offset c.fill-mark.result is h c.address.result c.address.ensures))
 
 pub undo_portion-requires : goal.undo_portion-requires
@@ -51,4 +51,4 @@ undo_portion-requires c = (let x = c.requires.can in record { can = record { som
 
 pub returns-then-crowded-clause-served : goal.returns-then-crowded-clause-served
 returns-then-crowded-clause-served c = λ s vs ram lists k target is absent.
-    called_again k c.args.block c.args.offset (indirect target) is absent refl (sym c.crowded.ensures ∙ c.if-crowded.true) (c.undo_portion.ensures.undone s vs ram lists k) c.undo_portion.ensures.bound c.undo_portion.ensures.stays.cache_at
+    called_again k c.args.block c.args.offset (indirect target) is absent refl (sym c.crowded.ensures ∙ c.if-crowded.true) (c.undo_portion.ensures.undone s vs ram lists k) c.undo_portion.ensures.bound c.undo_portion.ensures.stays.cache_at c.undo_portion.ensures.memo

@@ -65,3 +65,6 @@ returns-clause-arrived c = λ s vs ram lists k.
     has_filled k (full_is k) (free_is k) c.length_of-new_words.ensures refl
     (record { counts = c.count_miss.ensures; slots = refl; size = refl; base = refl; next = c.following-chip.ensures; filled = c.min-chip.ensures; marks = ap (λ (l : List ℕ). slice_set l c.args.block (c.args.chip.now.next * c.args.chip.now.size.words + 1)) c.forget.ensures; places = refl; ends = refl; image = refl; cache = c.miss-undone.auto.cache; rest = refl; memo = c.forget-2.auto.memo })
     (c.miss-undone.ensures.missed (counted_slots s) vs ram lists tm))
+
+pub returns-clause-memo : goal.returns-clause-memo
+returns-clause-memo c = c.forget-2.ensures
