@@ -1,5 +1,5 @@
 -- A call that is to be made again, and one that isn't.
-use Rattle.std.proofs.Common.{◌≡◌, ◌==◌, ◌&&◌, ◌+◌, ◌<◌, ℕ, Bool, true, false, not, List, slice_index, Option, Some, None, refl, sym, ap, subst}
+use Rattle.std.proofs.Common.{◌≡◌, ◌&&◌, ◌+◌, ◌<◌, ℕ, Bool, true, false, List, slice_index, Option, Some, None, refl, sym, subst}
 use Rattle.std.proofs.lemmas.Bool.{and_from, both_ways, eq-eqb, false_from_ne_true, ne_eqb}
 use Rattle.swi_image.specs.Place.{length_at, place_of}
 use Rattle.swi_rom.specs.Coherent.{ExitAt}
@@ -9,18 +9,9 @@ use Rattle.swi_slots.specs.Keys.{Images}
 use Rattle.swi_slots.specs.Slots.{Slots, kept_by, links_of, setting_of}
 use Rattle.swi_slots.proofs.Crossing.{ExitIn, exit_in, exit_same}
 use Rattle.swi_chip.specs.declared.chip.Chip.{Chip}
-use Rattle.swi_chip.specs.Memo.{Forgets}
-use Rattle.swi_chip.specs.Service.{Called, ChipServed, ChipWaits, CountsRefused, HasFewer, StandsFor, again, evicts, is_crowded, must_wait, portion, with_links}
+use Rattle.swi_chip.specs.Service.{Called, ChipServed, ChipWaits, CountsRefused, HasFewer, StandsFor, again, is_crowded, must_wait, portion, with_links}
 use Rattle.swi_chip.proofs.Entering.{no_slot, place_known}
 use Rattle.swi_chip.proofs.Fewer.{few_alike, moves_alike, refused_alike}
-
-and_no : (x y : Bool) → y ≡ false → (x && y) ≡ false
-and_no true y e = e
-and_no false y e = refl
-
--- where no block leaves, the memo stays
-forgets_none : {leaves : Bool} {old new : List ℕ} → leaves ≡ false → new ≡ old → Forgets leaves old new
-forgets_none {leaves} never same = record { left = λ e. absurd (both_ways leaves never e); unfilled = λ e zero. same; stays = λ e. same }
 
 -- over an exit that isn't linked goes no transfer over a link
 pub over_none : {s : Slots} {vs : Images} {ram : List ℕ} {lists : List (List ℕ)} {c : Chip} → StandsFor s vs ram lists c → (at target b o f : ℕ) → ExitAt (vs s.turn) (kept_by s) at target → Placed (kept_by s) b f → o < length_at (vs s.turn) b → at ≡ f + o →
@@ -60,38 +51,33 @@ module _ {s : Slots} {vs : Images} {ram : List ℕ} {lists : List (List ℕ)} {o
         }
 
     -- the call is to be made again
-    pub called_again : is_over_link (kept_by s) t ≡ false → is_crowded old ≡ true → HasFewer portion s vs old new → CountsRefused false old new → new.cache_at ≡ old.cache_at → new.memo.now ≡ old.memo.now → Called s vs t old new again
-    called_again none crowded h bound put memo =
+    pub called_again : is_over_link (kept_by s) t ≡ false → is_crowded old ≡ true → HasFewer portion s vs old new → CountsRefused false old new → new.cache_at ≡ old.cache_at → Called s vs t old new again
+    called_again none crowded h bound put =
         let must : must_wait old (place_of (vs s.turn) (target_of t)) ≡ true = subst (λ (p : Option (ℕ × ℕ)). must_wait old p ≡ true) (sym is) (and_from _ _ (eq-eqb _ _ absent) crowded) in
-        record { waits = λ _. (refl, waits_by none h bound put); serves = λ never. absurd (both_ways _ never must); memo = forgets_none (subst (λ (p : Option (ℕ × ℕ)). evicts old p ≡ false) (sym is) (and_no _ _ (and_no _ _ (ap not crowded)))) memo }
+        record { waits = λ _. (refl, waits_by none h bound put); serves = λ never. absurd (both_ways _ never must) }
 
     -- the next slot isn't crowded
-    pub called_free : {answer : ℕ} → is_crowded old ≡ false → Forgets (old.filled == old.slots) old.memo.now new.memo.now → ChipServed s vs t answer old new → Called s vs t old new answer
-    called_free free f q =
+    pub called_free : {answer : ℕ} → is_crowded old ≡ false → ChipServed s vs t answer old new → Called s vs t old new answer
+    called_free free q =
         let never : must_wait old (place_of (vs s.turn) (target_of t)) ≡ false = subst (λ (p : Option (ℕ × ℕ)). must_wait old p ≡ false) (sym is) (and_no _ _ free) in
-        let same : evicts old (place_of (vs s.turn) (target_of t)) ≡ (old.filled == old.slots) =
-        subst (λ (p : Option (ℕ × ℕ)). evicts old p ≡ (old.filled == old.slots)) (sym is) (both_true _ _ _ (eq-eqb _ _ absent) (ap not free)) in
-        record { waits = λ must. absurd (both_ways _ never must); serves = λ _. q; memo = subst (λ (x : Bool). Forgets x old.memo.now new.memo.now) (sym same) f }
+        record { waits = λ must. absurd (both_ways _ never must); serves = λ _. q }
       where
-        both_true : (x y z : Bool) → x ≡ true → z ≡ true → (x && (y && z)) ≡ y
-        both_true true true z e f = f
-        both_true true false z e f = refl
-        both_true false y z e f = absurd (both_ways false refl e)
+        and_no : (x y : Bool) → y ≡ false → (x && y) ≡ false
+        and_no true y e = e
+        and_no false y e = refl
 
   -- the block stands in a slot
-  pub called_hit : {t : Transfer} {answer : ℕ} → place_of (vs s.turn) (target_of t) ≡ Some (block, offset) → (slice_index old.marks.now block ≡ 0 → ⊥) → new.memo.now ≡ old.memo.now → ChipServed s vs t answer old new → Called s vs t old new answer
-  called_hit {t} is some memo q =
+  pub called_hit : {t : Transfer} {answer : ℕ} → place_of (vs s.turn) (target_of t) ≡ Some (block, offset) → (slice_index old.marks.now block ≡ 0 → ⊥) → ChipServed s vs t answer old new → Called s vs t old new answer
+  called_hit {t} is some q =
       let never : must_wait old (place_of (vs s.turn) (target_of t)) ≡ false = subst (λ (p : Option (ℕ × ℕ)). must_wait old p ≡ false) (sym is) (no_and _ _ (ne_eqb _ _ some)) in
-      let stays : evicts old (place_of (vs s.turn) (target_of t)) ≡ false = subst (λ (p : Option (ℕ × ℕ)). evicts old p ≡ false) (sym is) (no_and _ _ (ne_eqb _ _ some)) in
-      record { waits = λ must. absurd (both_ways _ never must); serves = λ _. q; memo = forgets_none stays memo }
+      record { waits = λ must. absurd (both_ways _ never must); serves = λ _. q }
     where
       no_and : (x y : Bool) → x ≡ false → (x && y) ≡ false
       no_and true y e = absurd (both_ways true e refl)
       no_and false y e = refl
 
 -- there is no place
-pub called_none : {s : Slots} {vs : Images} {old new : Chip} {t : Transfer} {answer : ℕ} → place_of (vs s.turn) (target_of t) ≡ None → new.memo.now ≡ old.memo.now → ChipServed s vs t answer old new → Called s vs t old new answer
-called_none {s} {vs} {old} {new} {t} is memo q =
+pub called_none : {s : Slots} {vs : Images} {old new : Chip} {t : Transfer} {answer : ℕ} → place_of (vs s.turn) (target_of t) ≡ None → ChipServed s vs t answer old new → Called s vs t old new answer
+called_none {s} {vs} {old} {new} {t} is q =
     let never : must_wait old (place_of (vs s.turn) (target_of t)) ≡ false = subst (λ (p : Option (ℕ × ℕ)). must_wait old p ≡ false) (sym is) refl in
-    let stays : evicts old (place_of (vs s.turn) (target_of t)) ≡ false = subst (λ (p : Option (ℕ × ℕ)). evicts old p ≡ false) (sym is) refl in
-    record { waits = λ must. absurd (both_ways _ never must); serves = λ _. q; memo = forgets_none stays memo }
+    record { waits = λ must. absurd (both_ways _ never must); serves = λ _. q }

@@ -21,3 +21,4 @@ mod Fewer
 mod Unlinking
 mod Calling
 pub mod Repeating
+mod Keeping

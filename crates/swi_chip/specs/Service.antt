@@ -1,5 +1,5 @@
 -- What a service on a chip stands for: a service with slots of one program, its image, and the words of its ram.
-use Rattle.std.specs.Prelude.{◌≡◌, ◌⊎◌, ℕ, ◌+◌, ◌-◌, ◌*◌, ◌%◌, ◌/◌, ◌^◌, ◌<◌, ◌≤◌, ◌==◌, ◌&&◌, Bool, true, false, not, List, length, slice_index, slice_set, Option, Some, None, nat_lt, if◌then◌else◌}
+use Rattle.std.specs.Prelude.{◌≡◌, ◌⊎◌, ℕ, ◌+◌, ◌-◌, ◌*◌, ◌%◌, ◌/◌, ◌^◌, ◌<◌, ◌≤◌, ◌==◌, ◌&&◌, Bool, true, false, List, length, slice_index, slice_set, Option, Some, None, nat_lt, if◌then◌else◌}
 use Rattle.swi_image.specs.Format.{ImageData}
 use Rattle.swi_image.specs.Checks.{block_of}
 use Rattle.swi_image.specs.Place.{length_at, place_of}
@@ -18,7 +18,6 @@ use Rattle.swi_chip.specs.declared.chip.Chip.{Chip}
 use Rattle.swi_chip.specs.declared.chip.ChipCounts.{ChipCounts}
 use Rattle.swi_chip.specs.Bounded.{fifo_few, is_refused}
 use Rattle.swi_chip.specs.Held.{Holds, RowsHold}
-use Rattle.swi_chip.specs.Memo.{Forgets}
 use Rattle.swi_chip.specs.Sizes.{IsInverse}
 use Rattle.swi_chip.specs.Undone.{begin_in}
 
@@ -215,11 +214,6 @@ abbrev pub must_wait : Chip → Option (ℕ × ℕ) → Bool
 must_wait c None = false
 must_wait c (Some p) = (slice_index c.marks.now p.0 == 0) && is_crowded c
 
--- another block leaves for that of a place
-abbrev pub evicts : Chip → Option (ℕ × ℕ) → Bool
-evicts c None = false
-evicts c (Some p) = (slice_index c.marks.now p.0 == 0) && ((c.filled == c.slots) && not (is_crowded c))
-
 -- a service with other links, and so many undone in all
 abbrev pub with_links : Slots → List ℕ → ℕ → Slots
 with_links s targets unlinks = record s { targets = targets; counts = record s.counts { unlinks = unlinks } }
@@ -251,11 +245,10 @@ pub record ChipWaits (s : Slots) (vs : Images) (t : Transfer) (old new : Chip) :
   pub bound : CountsRefused false old new
   pub cache_at : new.cache_at ≡ old.cache_at
 
--- the call is to be made again, or the transfer was served; and the vector's memo is emptied where a block has left
+-- the call is to be made again, or the transfer was served
 pub record Called (s : Slots) (vs : Images) (t : Transfer) (old new : Chip) (answer : ℕ) : Type 0 where
   pub waits : must_wait old (place_of (vs s.turn) (target_of t)) ≡ true → (answer ≡ again) × ChipWaits s vs t old new
   pub serves : must_wait old (place_of (vs s.turn) (target_of t)) ≡ false → ChipServed s vs t answer old new
-  pub memo : Forgets (evicts old (place_of (vs s.turn) (target_of t))) old.memo.now new.memo.now
 
 -- `enter` and `cross`, for whatever service the chip stands for
 abbrev pub Enters : Chip → Chip → ℕ → ℕ → Type 0

@@ -3,6 +3,7 @@
 
 ghost use Rattle.std.specs.Prelude.{◌≡◌, ◌==◌, ◌+◌, ◌-◌, ◌*◌, ◌/◌, ◌%◌, ◌^◌, ◌<◌, length, slice_index, slice_set, if◌then◌else◌};
 ghost use Rattle.swi_chip.specs.Leaving.{Leaves, Links, linked_by};
+ghost use Rattle.swi_chip.specs.Memo.{Forgets};
 ghost use Rattle.swi_chip.specs.Service.{IsSome, StaysPut};
 
 use crate::answer::{AGAIN, DAMAGED, MISALIGNED};
@@ -29,6 +30,7 @@ pub fn leave(chip: &mut Chip<'_>, registers: &mut Registers, pc: u32, target: u3
     requires some { IsSome chip.old }
     ensures served { Leaves chip.old chip.new pc target result }
     ensures links { Links chip.old registers.old.x registers.new.x pc target result }
+    ensures memo { Forgets chip.old chip.new }
     ensures stays { StaysPut chip.old chip.new }
 {
     let distance = pc.wrapping_sub(chip.cache_at);

@@ -2,7 +2,7 @@
 #![tactic(auto)]
 
 ghost use Rattle.std.specs.Prelude.{◌≡◌, ◌+◌, ◌/◌, ◌%◌, ◌<◌, ℕ, true, false, length, slice_index};
-ghost use Rattle.swi_chip.specs.Memo.{Forgets, HasNone};
+ghost use Rattle.swi_chip.specs.Memo.{HasNone};
 
 /// Empties the memo: each entry has a target of another entry's number.
 #[inline(always)]
@@ -20,7 +20,9 @@ pub fn empty(memo: &mut [u32])
 #[inline(always)]
 pub fn forget(memo: &mut [u32], leaves: bool)
     requires { length memo.old ≡ 17 }
-    ensures { Forgets leaves memo.old memo.new }
+    ensures left { leaves ≡ true → (slice_index memo.old 0 ≡ 0 → ⊥) → HasNone memo.new }
+    ensures unfilled { leaves ≡ true → slice_index memo.old 0 ≡ 0 → memo.new ≡ memo.old }
+    ensures stays { leaves ≡ false → memo.new ≡ memo.old }
 {
     if leaves && memo[0] != 0 {
         empty(memo);

@@ -8,7 +8,7 @@ ghost use Rattle.swi_image.specs.Sound.{IsImage};
 ghost use Rattle.swi_slots.specs.Slots.{Slots};
 ghost use Rattle.swi_slots.specs.Steps.{wrapped};
 ghost use Rattle.swi_slots.specs.Keys.{Images};
-ghost use Rattle.swi_chip.specs.Memo.{Forgets};
+ghost use Rattle.swi_chip.specs.Memo.{Forgets, KeepsMemo};
 ghost use Rattle.swi_chip.specs.Undone.{begin_in};
 ghost use Rattle.swi_chip.specs.Service.{CanCross, CanCrossNew, CanEnterNew, CanFill, CanLinkHere, CanLinkExit, CountsRefused, CountedMiss, CountedService, Crosses, CrossesNew, Enters, EntersNew, HasArrived, HasTables, IsSome, LinkedExit, Exits, CanExit, StandsFor, StaysPut, ToFill, ToLinkExit};
 
@@ -107,7 +107,7 @@ fn fill(chip: &mut Chip<'_>, block: u32) -> u32
     ensures arrived { (s : Slots) (vs : Images) (ram : List ℕ) (lists : List (List ℕ)) → ToFill s vs ram lists block chip.old →
         HasArrived s vs ram block result chip.new }
     ensures bound { CountsRefused false chip.old chip.new }
-    ensures memo { Forgets (chip.old.filled == chip.old.slots) chip.old.memo.now chip.new.memo.now }
+    ensures memo { Forgets chip.old chip.new }
     ensures stays { StaysPut chip.old chip.new }
 {
     let slot = chip.next;
@@ -170,6 +170,7 @@ fn address(cache_at: u32, index: u32) -> u32
 fn enter_new(chip: &mut Chip<'_>, block: u32, offset: u32) -> u32
     requires can { CanEnterNew chip.old block offset }
     ensures served { EntersNew chip.old chip.new block offset result }
+    ensures memo { Forgets chip.old chip.new }
     ensures stays { StaysPut chip.old chip.new }
 {
     if crowded(chip) {
@@ -190,6 +191,7 @@ fn enter_new(chip: &mut Chip<'_>, block: u32, offset: u32) -> u32
 pub fn enter(chip: &mut Chip<'_>, target: u32) -> u32
     requires some { IsSome chip.old }
     ensures served { Enters chip.old chip.new target result }
+    ensures memo { Forgets chip.old chip.new }
     ensures stays { StaysPut chip.old chip.new }
 {
     let Some((block, offset)) = place(chip, target) else {
@@ -210,7 +212,7 @@ fn link_here(chip: &mut Chip<'_>, at: u32, slot: u32, to: u32)
     requires can { CanLinkHere chip.old at slot to }
     ensures linked { (t : Slots) (vs : Images) (words : List ℕ) (lists : List (List ℕ)) (home : ℕ) → ToLinkExit t vs words lists at home slot to chip.old →
         slice_index chip.old.blocks.now (at / chip.old.size.words) ≡ home → LinkedExit t vs words lists at home slot to chip.old chip.new }
-    ensures memo { chip.new.memo.now ≡ chip.old.memo.now }
+    ensures memo { KeepsMemo chip.old chip.new }
     ensures stays { StaysPut chip.old chip.new }
 {
     if u32::from(chip.links[slot as usize]) >= chip.most {
@@ -227,7 +229,7 @@ fn link_exit(chip: &mut Chip<'_>, at: u32, home: u32, slot: u32, to: u32)
     requires can { CanLinkExit chip.old at home slot to }
     ensures linked { (t : Slots) (vs : Images) (words : List ℕ) (lists : List (List ℕ)) → ToLinkExit t vs words lists at home slot to chip.old →
         LinkedExit t vs words lists at home slot to chip.old chip.new }
-    ensures memo { chip.new.memo.now ≡ chip.old.memo.now }
+    ensures memo { KeepsMemo chip.old chip.new }
     ensures stays { StaysPut chip.old chip.new }
 {
     let row = chip.size.slot_of(at);
@@ -242,6 +244,7 @@ fn link_exit(chip: &mut Chip<'_>, at: u32, home: u32, slot: u32, to: u32)
 fn cross_new(chip: &mut Chip<'_>, at: u32, block: u32, offset: u32) -> u32
     requires can { CanCrossNew chip.old at block offset }
     ensures served { CrossesNew chip.old chip.new at block offset result }
+    ensures memo { Forgets chip.old chip.new }
     ensures stays { StaysPut chip.old chip.new }
 {
     if crowded(chip) {
@@ -264,6 +267,7 @@ fn cross_new(chip: &mut Chip<'_>, at: u32, block: u32, offset: u32) -> u32
 pub fn cross(chip: &mut Chip<'_>, at: u32, target: u32) -> u32
     requires can { CanCross chip.old at target }
     ensures served { Crosses chip.old chip.new at target result }
+    ensures memo { Forgets chip.old chip.new }
     ensures stays { StaysPut chip.old chip.new }
 {
     let Some((block, offset)) = place(chip, target) else {
@@ -286,6 +290,7 @@ pub fn cross(chip: &mut Chip<'_>, at: u32, target: u32) -> u32
 pub fn exit(chip: &mut Chip<'_>, pc: u32, target: u32) -> u32
     requires can { CanExit chip.old pc target }
     ensures served { Exits chip.old chip.new pc target result }
+    ensures memo { Forgets chip.old chip.new }
     ensures stays { StaysPut chip.old chip.new }
 {
     let distance = pc.wrapping_sub(chip.cache_at);

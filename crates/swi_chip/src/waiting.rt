@@ -2,6 +2,7 @@
 #![tactic(auto)]
 
 ghost use Rattle.std.specs.Prelude.{◌≡◌, ◌==◌, ◌&&◌, ◌+◌, ◌*◌, ◌/◌, ◌^◌, ◌<◌, ◌%◌, false, not, nat_lt, length, slice_index, if◌then◌else◌};
+ghost use Rattle.swi_chip.specs.Memo.{KeepsMemo};
 ghost use Rattle.swi_chip.specs.Sizes.{IsInverse};
 ghost use Rattle.swi_chip.specs.Undone.{CanRestore, restored};
 ghost use Rattle.swi_chip.specs.Service.{CanUndo, CanWait, CountedUndone, CountsRefused, IsSome, StaysPut, Undoes, is_crowded, portion};
@@ -57,7 +58,7 @@ fn undo_first(chip: &mut Chip<'_>)
     ensures undone { Undoes 1 chip.old chip.new }
     ensures stays { StaysPut chip.old chip.new }
     ensures bound { CountsRefused false chip.old chip.new }
-    ensures memo { chip.new.memo.now ≡ chip.old.memo.now }
+    ensures memo { KeepsMemo chip.old chip.new }
     ensures full { chip.new.filled ≡ chip.old.filled }
     ensures slots { chip.new.slots ≡ chip.old.slots }
 {
@@ -79,7 +80,7 @@ pub fn undo_portion(chip: &mut Chip<'_>)
     ensures undone { Undoes portion chip.old chip.new }
     ensures stays { StaysPut chip.old chip.new }
     ensures bound { CountsRefused false chip.old chip.new }
-    ensures memo { chip.new.memo.now ≡ chip.old.memo.now }
+    ensures memo { KeepsMemo chip.old chip.new }
 {
     for _k in 0..PORTION {
         undo_first(chip);

@@ -4,7 +4,7 @@
 ghost use Rattle.std.specs.Prelude.{◌≡◌, length};
 ghost use Rattle.swi_image.specs.Format.{ImageData};
 ghost use Rattle.swi_chip.specs.Leaving.{Leaves, Links};
-ghost use Rattle.swi_chip.specs.Memo.{HasNone};
+ghost use Rattle.swi_chip.specs.Memo.{Forgets, HasNone};
 ghost use Rattle.swi_chip.specs.Replacing.{Puts};
 ghost use Rattle.swi_chip.specs.Service.{CanExit, Enters, Exits, IsSome, StaysPut};
 ghost use Rattle.swi_chip.specs.Standing.{Originates, Resumes};
@@ -28,6 +28,7 @@ pub extern "C" fn chip_start(chip: &mut Chip<'_>)
 pub extern "C" fn chip_exit(chip: &mut Chip<'_>, pc: u32, target: u32) -> u32
     requires can { CanExit chip.old pc target }
     ensures served { Exits chip.old chip.new pc target result }
+    ensures memo { Forgets chip.old chip.new }
     ensures stays { StaysPut chip.old chip.new }
 {
     swi_chip::exit(chip, pc, target)
@@ -38,6 +39,7 @@ pub extern "C" fn chip_exit(chip: &mut Chip<'_>, pc: u32, target: u32) -> u32
 pub extern "C" fn chip_enter(chip: &mut Chip<'_>, target: u32) -> u32
     requires some { IsSome chip.old }
     ensures served { Enters chip.old chip.new target result }
+    ensures memo { Forgets chip.old chip.new }
     ensures stays { StaysPut chip.old chip.new }
 {
     swi_chip::enter(chip, target)
@@ -54,6 +56,7 @@ pub extern "C" fn chip_leave(
     requires some { IsSome chip.old }
     ensures served { Leaves chip.old chip.new pc target result }
     ensures links { Links chip.old registers.old.x registers.new.x pc target result }
+    ensures memo { Forgets chip.old chip.new }
     ensures stays { StaysPut chip.old chip.new }
 {
     swi_chip::leave(chip, registers, pc, target)

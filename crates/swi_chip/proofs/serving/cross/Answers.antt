@@ -11,7 +11,7 @@ place-requires c = record { text = c.requires.can.some.stands.numbers.text_is }
 pub returns-in_default-clause-served : goal.returns-in_default-clause-served
 returns-in_default-clause-served c = λ s vs ram lists k x b o f placed inside at_place.
     (let none = sym (c.place.ensures (vs s.turn) c.args.chip.now.ends.now (k.serves.images s.turn) k.tables) ∙ c.in_default.is in
-    called_none none refl (crossed_none k b o c.args.target none))
+    called_none none (crossed_none k b o c.args.target none))
 
 pub bounds-chip-block : goal.bounds-chip-block
 bounds-chip-block c =
@@ -89,6 +89,6 @@ returns-clause-served c = λ s vs ram lists k x b o f placed inside at_place.
     let slot_is = c.slot_of-slot.ensures ∙ slot_found h in
     let to : ℕ = c.from-mark.result - 1 + c.in-Some.offset in
     let le = to_link_exit k c.args.at c.args.target x is h home c.slot_of-slot.result to refl slot_is (place_found h c.in-Some.offset) in
-    called_hit k c.in-Some.block c.in-Some.offset is (λ none. c.if-mark-eq0.false (c.from-mark.ensures ∙ none)) c.link_here.ensures.memo
+    called_hit k c.in-Some.block c.in-Some.offset is (λ none. c.if-mark-eq0.false (c.from-mark.ensures ∙ none))
     (crossed_some k c.args.at c.args.target x is h (record { most = refl; refused = c.count_service.ensures.refused }) home c.slot_of-slot.result to c.link_here.new.chip refl slot_is (place_found h c.in-Some.offset) (c.link_here.ensures.linked h.next vs h.words h.lists home le refl) b o f placed inside at_place
     c.address.result c.address.ensures c.link_here.ensures.stays.cache_at))

@@ -1,10 +1,10 @@
-use Rattle.std.proofs.Common.{◌==◌, ℕ, ◌+◌, ◌-◌, List, slice_index, ap, arith, refl, sym, subst, ◌∙◌}
+use Rattle.std.proofs.Common.{ℕ, ◌+◌, ◌-◌, slice_index, ap, arith, refl, sym, ◌∙◌}
 use Rattle.swi_rom.specs.Record.{direct}
-use Rattle.swi_chip.specs.Memo.{Forgets}
 use Rattle.swi_chip.specs.Service.{HasArrived}
 use Rattle.swi_chip.proofs.Calling.{called_again, called_free, over_none}
 use Rattle.swi_chip.proofs.Entering.{index_few, mark_low, place_known, to_fill}
 use Rattle.swi_chip.proofs.Crossing.{crossed_some, exit_few, exit_low, mark_some, place_few, place_found, slot_found, to_link_exit}
+use Rattle.swi_chip.proofs.Keeping.{forgets_between}
 use Rattle.swi_chip.proofs.serving.cross_new.Goals as goal
 
 pub slot_of-row-requires : goal.slot_of-row-requires
@@ -77,7 +77,7 @@ returns-clause-served c = λ s vs ram lists k target is absent x b o f placed in
     let slot_is = c.slot_of-slot.ensures ∙ slot_found h in
     let to : ℕ = c.fill-first.result - 1 + c.args.offset in
     let le = to_link_exit k c.args.at target x is h home c.slot_of-slot.result to home_is slot_is (place_found h c.args.offset) in
-    called_free k c.args.block c.args.offset (direct b o target) is absent (sym c.crowded.ensures ∙ c.if-crowded.false) (subst (λ (m : List ℕ). Forgets (c.args.chip.now.filled == c.args.chip.now.slots) c.args.chip.now.memo.now m) (sym c.link_exit.ensures.memo) c.fill-first.ensures.memo)
+    called_free k c.args.block c.args.offset (direct b o target) is absent (sym c.crowded.ensures ∙ c.if-crowded.false)
     (crossed_some k c.args.at target x is h (record { most = c.fill-first.ensures.bound.most; refused = c.fill-first.ensures.bound.refused ∙ c.count_service.ensures.refused }) home c.slot_of-slot.result to c.link_exit.new.chip home_is slot_is (place_found h c.args.offset) (c.link_exit.ensures.linked h.next vs h.words h.lists le) b o f placed inside at_place
     c.address.result c.address.ensures c.link_exit.ensures.stays.cache_at))
 
@@ -86,4 +86,7 @@ undo_portion-requires c = (let x = c.requires.can in record { can = record { som
 
 pub returns-then-crowded-clause-served : goal.returns-then-crowded-clause-served
 returns-then-crowded-clause-served c = λ s vs ram lists k target is absent x b o f placed inside at_place.
-    called_again k c.args.block c.args.offset (direct b o target) is absent (over_none k c.args.at target b o f x placed inside at_place) (sym c.crowded.ensures ∙ c.if-crowded.true) (c.undo_portion.ensures.undone s vs ram lists k) c.undo_portion.ensures.bound c.undo_portion.ensures.stays.cache_at c.undo_portion.ensures.memo
+    called_again k c.args.block c.args.offset (direct b o target) is absent (over_none k c.args.at target b o f x placed inside at_place) (sym c.crowded.ensures ∙ c.if-crowded.true) (c.undo_portion.ensures.undone s vs ram lists k) c.undo_portion.ensures.bound c.undo_portion.ensures.stays.cache_at
+
+pub returns-clause-memo : goal.returns-clause-memo
+returns-clause-memo c = forgets_between (record { evictions = c.count_service.ensures.evictions; memo = refl }) c.fill-first.ensures.memo c.link_exit.ensures.memo

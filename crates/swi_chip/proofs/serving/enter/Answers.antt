@@ -10,7 +10,7 @@ place-requires c = record { text = c.requires.some.stands.numbers.text_is }
 pub returns-in_default-clause-served : goal.returns-in_default-clause-served
 returns-in_default-clause-served c = λ s vs ram lists k.
     (let none = sym (c.place.ensures (vs s.turn) c.args.chip.now.ends.now (k.serves.images s.turn) k.tables) ∙ c.in_default.is in
-    called_none none refl (entered_none k c.args.target none))
+    called_none none (entered_none k c.args.target none))
 
 pub bounds-chip-block : goal.bounds-chip-block
 bounds-chip-block c =
@@ -51,5 +51,5 @@ pub returns-clause-served : goal.returns-clause-served
 returns-clause-served c = λ s vs ram lists k.
     (let is : place_of (vs s.turn) c.args.target ≡ Some (c.in-Some.block, c.in-Some.offset) = sym (c.place.ensures (vs s.turn) c.args.chip.now.ends.now (k.serves.images s.turn) k.tables) ∙ c.in-Some.is in
     let p = place_known (vs s.turn) c.args.target c.in-Some.block c.in-Some.offset (k.serves.images s.turn) is in
-    called_hit k c.in-Some.block c.in-Some.offset is (λ none. c.if-mark-eq0.false (c.from-mark.ensures ∙ none)) refl
+    called_hit k c.in-Some.block c.in-Some.offset is (λ none. c.if-mark-eq0.false (c.from-mark.ensures ∙ none))
     (entered_some {s = s} {vs = vs} {ram = ram} {c = c.args.chip.now} (record { most = refl; refused = c.count_service.ensures.refused }) c.args.target c.in-Some.block c.in-Some.offset _ is (hit_at k c.in-Some.block p.0 c.from-mark.result c.from-mark.ensures c.count_service.new.counts c.count_service.ensures c.if-mark-eq0.false) c.address.result c.address.ensures))

@@ -4,6 +4,7 @@ use Rattle.swi_chip.specs.Service.{HasArrived}
 use Rattle.swi_chip.proofs.Calling.{called_again, called_free}
 use Rattle.swi_chip.proofs.Crossing.{mark_some}
 use Rattle.swi_chip.proofs.Entering.{entered_some, index_few, place_known, mark_low, to_fill}
+use Rattle.swi_chip.proofs.Keeping.{forgets_between}
 use Rattle.swi_chip.proofs.serving.enter_new.Goals as goal
 
 pub fill-mark-requires : goal.fill-mark-requires
@@ -43,7 +44,7 @@ returns-clause-served c = λ s vs ram lists k target is absent.
     (let p = place_known (vs s.turn) target c.args.block c.args.offset (k.serves.images s.turn) is in
     let x = c.requires.can in
     let h : HasArrived s vs ram c.args.block c.fill-mark.result c.fill-mark.new.chip = c.fill-mark.ensures.arrived s vs ram lists (to_fill k c.args.block p.0 c.count_service.new.counts c.count_service.ensures x.absent) in
-    called_free k c.args.block c.args.offset (indirect target) is absent (sym c.crowded.ensures ∙ c.if-crowded.false) c.fill-mark.ensures.memo
+    called_free k c.args.block c.args.offset (indirect target) is absent (sym c.crowded.ensures ∙ c.if-crowded.false)
     (entered_some {s = s} {vs = vs} {ram = ram} {c = c.args.chip.now} (record { most = c.fill-mark.ensures.bound.most; refused = c.fill-mark.ensures.bound.refused ∙ c.count_service.ensures.refused }) target c.args.block c.args.offset c.fill-mark.result is h c.address.result c.address.ensures))
 
 pub undo_portion-requires : goal.undo_portion-requires
@@ -51,4 +52,7 @@ undo_portion-requires c = (let x = c.requires.can in record { can = record { som
 
 pub returns-then-crowded-clause-served : goal.returns-then-crowded-clause-served
 returns-then-crowded-clause-served c = λ s vs ram lists k target is absent.
-    called_again k c.args.block c.args.offset (indirect target) is absent refl (sym c.crowded.ensures ∙ c.if-crowded.true) (c.undo_portion.ensures.undone s vs ram lists k) c.undo_portion.ensures.bound c.undo_portion.ensures.stays.cache_at c.undo_portion.ensures.memo
+    called_again k c.args.block c.args.offset (indirect target) is absent refl (sym c.crowded.ensures ∙ c.if-crowded.true) (c.undo_portion.ensures.undone s vs ram lists k) c.undo_portion.ensures.bound c.undo_portion.ensures.stays.cache_at
+
+pub returns-clause-memo : goal.returns-clause-memo
+returns-clause-memo c = forgets_between (record { evictions = c.count_service.ensures.evictions; memo = refl }) c.fill-mark.ensures.memo (record { evictions = refl; memo = refl })

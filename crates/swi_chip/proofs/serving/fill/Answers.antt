@@ -3,6 +3,7 @@ use Rattle.std.proofs.lemmas.Bool.{eqb-true, eqb-false, false≢true}
 use Rattle.swi_slots.specs.Slots.{Slots}
 use Rattle.swi_slots.specs.Keys.{Images}
 use Rattle.swi_slots.specs.Steps.{counted_slots}
+use Rattle.swi_chip.proofs.Keeping.{forgets_by}
 use Rattle.swi_chip.specs.declared.chip.Chip.{Chip}
 use Rattle.swi_chip.specs.Service.{ToFill}
 use Rattle.swi_chip.specs.Undone.{begin_in}
@@ -67,4 +68,4 @@ returns-clause-arrived c = λ s vs ram lists k.
     (c.miss-undone.ensures.missed (counted_slots s) vs ram lists tm))
 
 pub returns-clause-memo : goal.returns-clause-memo
-returns-clause-memo c = c.forget-2.ensures
+returns-clause-memo c = forgets_by (c.args.chip.now.filled == c.args.chip.now.slots) c.count_miss.ensures.evictions c.forget-2.ensures.left c.forget-2.ensures.unfilled c.forget-2.ensures.stays
