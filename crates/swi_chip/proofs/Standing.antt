@@ -317,3 +317,11 @@ leave_stands_by {words} {mid} {words'} {heads} {heads'} {lists} slot cell m p s 
     let a' : NextWritten words mid (nexts words cell) (befores words cell) = subst (λ (n : ℕ). NextWritten words mid n (befores words cell)) em (subst (λ (n : ℕ). NextWritten words mid m n) ep a) in
     let b' : BeforeWritten mid words' heads heads' slot (befores words cell) (nexts words cell) = subst (λ (n : ℕ). BeforeWritten mid words' heads heads' slot (befores words cell) n) em (subst (λ (n : ℕ). BeforeWritten mid words' heads heads' slot n m) ep b) in
     leave_stands {words = words} {mid = mid} {words' = words'} {heads = heads} {heads' = heads'} {lists = lists} slot cell s lt has a' b'
+
+-- before the first cell stands none
+pub first_before : {words heads : List ℕ} {lists : List (List ℕ)} (slot cell : ℕ) → StandIn words heads lists → slot < length heads → Has (list_at lists slot) cell → slice_index heads slot ≡ cell → 0 ≡ befores words cell
+first_before {words} {heads} {lists} slot cell s lt has first = by (list_at lists slot) has (s.runs slot lt)
+  where
+    by : (L : List ℕ) → Has L cell → Run (nexts words) (befores words) (length words) 0 (slice_index heads slot) L → 0 ≡ befores words cell
+    by [] h run = absurd h
+    by (x ∷ xs) h run = sym (ap (befores words) (sym first ∙ run.0) ∙ run.3)

@@ -10,7 +10,7 @@ use Rattle.swi_slots.specs.Keys.{Images}
 use Rattle.swi_chip.specs.declared.chip.Chip.{Chip}
 use Rattle.swi_chip.specs.declared.chip.ChipCounts.{ChipCounts}
 use Rattle.swi_chip.specs.Held.{Holds, InBlock}
-use Rattle.swi_chip.specs.Lists.{Run, StandIn, before_in, befores, list_at, next_in, nexts}
+use Rattle.swi_chip.specs.Lists.{Run, StandIn, befores, list_at, next_in, nexts}
 use Rattle.swi_chip.specs.Owned.{AreCounted, is_jump, lands_in}
 use Rattle.swi_chip.specs.Service.{CanUndo, CanWait, CountedUndone, CountsBy, HasFewer, IsSome, StandsFor, Undoes, is_crowded, portion, with_links}
 use Rattle.swi_chip.specs.Undone.{CanRestore, restored}
@@ -18,7 +18,7 @@ use Rattle.swi_chip.proofs.Arriving.{stands_frame}
 use Rattle.swi_chip.proofs.Facts.{behind_slot, can_restore, cell_link, lists_apart, restores_ram}
 use Rattle.swi_chip.proofs.Fewer.{arrives_alike, exits_were, still_linked, target_other, unlinked, unlinked_ram, unlinked_serves, was_target, word_here, word_other}
 use Rattle.swi_chip.proofs.Owning.{has_set_other, set_has, without_shorter}
-use Rattle.swi_chip.proofs.Standing.{before_known, cell_inside, next_known}
+use Rattle.swi_chip.proofs.Standing.{cell_inside, next_known}
 
 head_has : (n b : ℕ → ℕ) (size q h : ℕ) (L : List ℕ) → Run n b size q h L → 0 < length L → Has L h
 head_has n b size q h [] run some = absurd (omega (arith, some))
@@ -101,7 +101,7 @@ module _ {s : Slots} {vs : Images} {ram : List ℕ} {lists : List (List ℕ)} {c
   not_at n x h e = lists_apart k.serves k.holds c.next n cell x has_cell h (let u = one_up in omega (arith, e, u))
 
   module _ {cache1 heads1 : List ℕ} (st : StandIn cache1 heads1 lists') (long1 : length cache1 ≡ length c.cache.now)
-      (others : (i : ℕ) → (i ≡ next_in (slice_index c.cache.now cell) → i ≡ 0) → (i ≡ before_in (slice_index c.cache.now cell) → i ≡ 0) → slice_index cache1 i ≡ slice_index c.cache.now i)
+      (others : (i : ℕ) → (i ≡ next_in (slice_index c.cache.now cell) → i ≡ 0) → slice_index cache1 i ≡ slice_index c.cache.now i)
       (w : ℕ) (w_is : w ≡ restored c.blocks.now c.ends.now c.words.now c.size.words cell) where
     abbrev cache2 : List ℕ
     cache2 = slice_set (slice_set cache1 at ebreak) cell w
@@ -155,7 +155,7 @@ module _ {s : Slots} {vs : Images} {ram : List ℕ} {lists : List (List ℕ)} {c
             let clear : (n : ℕ) → Has (list_at lists n) i → ⊥ = λ n h. none n (still_cell n i h ne) in
             let beside : (j : ℕ) → (j ≡ 0) ⊎ Has L j → i ≡ j → i ≡ 0 = λ j q e. elim q [ inl zero ↦ e ∙ zero | inr h ↦ absurd (clear c.next (subst (λ (n : ℕ). Has L n) (sym e) h)) ] in
             word_same i ne other
-            ∙ (others i (beside (nexts c.cache.now cell) (next_known c.next cell k.holds.stand slot_low has_cell)) (beside (befores c.cache.now cell) (before_known c.next cell k.holds.stand slot_low has_cell))
+            ∙ (others i (beside (nexts c.cache.now cell) (next_known c.next cell k.holds.stand slot_low has_cell))
             ∙ (k.holds.held i lt ib clear ∙ sym (word_other k.serves at at_low led i other)))
       ]
     ]

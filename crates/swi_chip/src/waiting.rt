@@ -8,7 +8,7 @@ ghost use Rattle.swi_chip.specs.Undone.{CanRestore, restored};
 ghost use Rattle.swi_chip.specs.Service.{CanUndo, CanWait, CountedUndone, CountsRefused, IsSome, StaysPut, Undoes, is_crowded, portion};
 
 use crate::chip::{Chip, ChipCounts};
-use crate::lists::leave;
+use crate::lists::leave_first;
 use swi_isa::EBREAK;
 
 /// How many links one call undoes.
@@ -64,12 +64,12 @@ fn undo_first(chip: &mut Chip<'_>)
 {
     let slot = chip.next;
     let cell = chip.heads[slot as usize];
-    leave(chip.cache, chip.heads, cell, slot);
+    let row = chip.size.slot_of(u32::from(cell));
     let word = descriptor(chip, cell);
+    leave_first(chip.cache, chip.heads, cell, slot);
     chip.cache[(cell - 1) as usize] = EBREAK;
     chip.cache[cell as usize] = word;
     chip.links[slot as usize] -= 1;
-    let row = chip.size.slot_of(u32::from(cell));
     count_undone(&mut chip.counts, row != slot);
 }
 
