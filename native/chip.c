@@ -39,6 +39,12 @@ struct chip {
     struct slice words;  /* uint32_t, the words of all blocks */
     struct slice starts; /* uint32_t, one for each block */
 };
+/* struct Tables of crates/swi_chip_c/src/lib.rt */
+struct tables {
+    struct slice starts;  /* uint32_t, one for each block */
+    struct slice offsets; /* uint32_t, one for each text word */
+    struct slice places;  /* the same */
+};
 _Static_assert(sizeof(struct slice) == 16 && _Alignof(struct slice) == 8, "a slice");
 _Static_assert(sizeof(struct counts) == 28 && offsetof(struct chip, cache) == 72, "struct Chip's numbers");
 _Static_assert(offsetof(struct chip, starts) == 216 && sizeof(struct chip) == 232, "struct Chip's slices");
@@ -50,6 +56,7 @@ _Static_assert(sizeof(block_mark) == 2 && PLACE_BLOCK_SHIFT == 13, "the tables")
 enum answer { NO_TEXT = 1, AGAIN = 2, DAMAGED = 3, MISALIGNED = 5 };
 
 /* crates/swi_chip_c */
+void chip_places(struct tables *tables);
 void chip_start(struct chip *chip);
 uint32_t chip_exit(struct chip *chip, uint32_t pc, uint32_t target);
 uint32_t chip_enter(struct chip *chip, uint32_t target);
@@ -181,6 +188,17 @@ uint32_t service_trap(struct frame *registers, uint32_t pc, uint32_t cause)
 SLOW static struct slice slice(const void *at, uint32_t length)
 {
     return (struct slice){at, 0, length};
+}
+
+/* Of guests alone: in a section of its own, which the linker leaves out of a firmware. */
+__attribute__((section(".text.slow.places"), noinline)) void service_fill_places(const struct image *image, uint32_t *places)
+{
+    struct tables tables = {
+        .starts = slice(image->starts, image->blocks),
+        .offsets = slice(image->offsets, image->text_words),
+        .places = slice(places, image->text_words),
+    };
+    chip_places(&tables);
 }
 
 /* Of the 8 bytes that a slot has in the tables, its block, its list and their number stand in three rows. */

@@ -1,4 +1,4 @@
-/* The table of places, which both services read: of a guest it is made at the start, and of a firmware by native/pack. */
+/* The table of places: of a guest it is made at the start, and of a firmware by native/pack. chip.c has it by proved code. */
 #include "runtime.h"
 
 SLOW void service_fill_places(const struct image *image, uint32_t *places)

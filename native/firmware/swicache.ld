@@ -15,10 +15,10 @@
   KEEP(*(.swicache.start))
   *(.swicache.first)
   swicache_first_end = .;
-  *(.text.slow)
+  *(.text.slow .text.slow.*)
   *places.o(.text .text.*)
   *image.o(.text .text.* .rodata .rodata.*)
-  *swi_chip.o(.text.chip_start .text.chip_put)
+  *swi_chip.o(.text.chip_places .text.chip_start .text.chip_put)
   *libc.o(.text .text.*)
   *start_c.o(.text .text.* .rodata .rodata.*)
   *other.o(.text .text.* .rodata .rodata.*)

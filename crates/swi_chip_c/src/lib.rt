@@ -9,8 +9,21 @@ ghost use Rattle.swi_chip.specs.Replacing.{Puts};
 ghost use Rattle.swi_chip.specs.Service.{CanExit, Enters, Exits, IsSome, StaysPut};
 ghost use Rattle.swi_chip.specs.Standing.{Originates, Resumes};
 ghost use Rattle.swi_chip.specs.Starting.{CanStart, Starts};
+ghost use Rattle.swi_chip_places.specs.Places.{AreOfImage, ArePlaces};
 
 use swi_chip::{Chip, Registers};
+use swi_chip_places::fill_places;
+
+/// Two tables of an image, and the table of places. C hands them in, so the fields stand in this order.
+#[repr(C)]
+pub struct Tables<'a> {
+    /// Of each block the number of its first text word.
+    pub starts: &'a [u32],
+    /// Of each text word its offset in its block.
+    pub offsets: &'a [u32],
+    /// Of each text word its block times 2^13, plus that offset.
+    pub places: &'a mut [u32],
+}
 
 /// Begins with an empty cache.
 #[unsafe(no_mangle)]
@@ -87,4 +100,15 @@ pub extern "C" fn chip_put(chip: &mut Chip<'_>, pc: u32, first: u32, second: u32
     ensures { Puts chip.old chip.new pc first second }
 {
     swi_chip::put(chip, pc, first, second)
+}
+
+/// Fills the table of places.
+#[unsafe(no_mangle)]
+pub extern "C" fn chip_places(tables: &mut Tables<'_>)
+    requires tables { AreOfImage tables.old.starts.now tables.old.offsets.now }
+    requires long { length tables.old.places.now ≡ length tables.old.offsets.now }
+    ensures { ArePlaces tables.old.starts.now tables.old.offsets.now tables.new.places.now }
+{
+    let places = &mut *tables.places;
+    fill_places(tables.starts, tables.offsets, places)
 }
