@@ -4,7 +4,7 @@ use Rattle.std.proofs.lemmas.Fmt.{decimal_digit, decimal_step, length-decimal-le
 use Rattle.std.specs.Fmt.{decimal}
 
 pub decimal_last : (n : ℕ) → n < 10 → decimal n ≡ (48 + n % 10) ∷ []
-decimal_last n small = let same : n % 10 ≡ n = omega arith in rw (same) (decimal_digit n small)
+decimal_last n small = let same : n % 10 ≡ n = omega arith in rw same (decimal_digit n small)
 
 pub decimal_more : (n : ℕ) → 10 ≤ n → n < 2 ^ 32 → decimal n ≡ decimal (n / 10) ++ (48 + n % 10) ∷ []
 decimal_more n large word = decimal_step n large (omega arith)

@@ -12,7 +12,7 @@ use std::marker::Model;
 pub(crate) const LINE_ROOM: usize = 96;
 
 /// A line of text, which is written in parts. It takes no memory. A part that is known where the line is written is
-/// stored by one or two instructions, where a call of `Line` and its copy take some 35.
+/// stored by one or two of the computer's instructions, where a call of `swi_line::Line` and its copy take some 35.
 #[derive(Drop)]
 pub struct LineBuffer {
     bytes: [u8; LINE_ROOM],

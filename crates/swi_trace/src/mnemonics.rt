@@ -175,7 +175,7 @@ fn push_atomic_name(line: &mut LineBuffer, op: AtomicOp)
     }
 }
 
-/// The name of an instruction.
+/// Appends the name of an instruction.
 pub(crate) fn push_name(line: &mut LineBuffer, instr: &Instr)
     requires { length line.old + NAME_ROOM ≤ LINE_ROOM }
     ensures bytes { line.new ≡ line.old ++ name instr.now }
